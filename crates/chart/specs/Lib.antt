@@ -1,0 +1,10 @@
+pub mod Words
+pub mod Format
+pub mod Refusal
+pub mod Rules
+pub mod Checked
+pub mod Verdict
+pub mod Sound
+pub mod Kept
+pub mod Meaning
+pub mod Lawful

@@ -1,0 +1,4 @@
+pub mod Checking
+pub mod Cells
+pub mod Means
+pub mod Laws

@@ -1,0 +1,3 @@
+// Small fields under fences and tolls, as tests.
+#[cfg(test)]
+mod tests;

@@ -1,0 +1,11 @@
+pub mod Meaning
+pub mod Answers
+pub mod Routes
+pub mod Unguided
+pub mod Opened
+pub mod Deeper
+pub mod Fenced
+pub mod Tolled
+pub mod Layers
+pub mod Pile
+pub mod Past

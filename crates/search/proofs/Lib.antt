@@ -1,0 +1,16 @@
+pub mod Never
+pub mod Falls
+pub mod Once
+pub mod Places
+pub mod Paths
+pub mod Invariant
+pub mod Followed
+pub mod Placed
+pub mod Frontier
+pub mod Chains
+pub mod Shown
+pub mod Queues
+pub mod Turns
+pub mod Searches
+pub mod Histories
+pub mod Examples

@@ -1,0 +1,11 @@
+pub mod Numbers
+pub mod Outcome
+pub mod Rows
+pub mod Queue
+pub mod Machine
+pub mod Answers
+pub mod Calls
+pub mod Laws
+pub mod Outs
+pub mod History
+pub mod Worked
