@@ -7,12 +7,15 @@ use native.Mathlib.Nat.{add-mul, one-mul, zero-mul, le-refl}
 use native.Mathlib.Omega.{arith}
 use Rattle.std.proofs.shelf.Tests.{and-parts, eqb-true, both-ways}
 use Rattle.std.proofs.shelf.Bits.{mul-le}
+use Rattle.std.specs.declared.result.Result.the-variants.{Ok}
 use Rattle.graph.specs.Meaning.{opened, closed}
 use Rattle.graph.specs.Routes.{Step, Weighs, ends, goes, True}
 use Rattle.field.specs.declared.layout.Layout.{Layout}
 use Rattle.field.specs.Cells.{heldAt, roadAt, targetAt, distance, guessAt}
 use Rattle.field.specs.Means.{columnOf, rowOf, fieldHeld, fieldMeaning, fieldGuess}
-use Rattle.field.specs.Laws.{Neighbour, neighbour, held-column, column-of-key, row-of-key}
+use Rattle.field.specs.Checking.{verdict}
+use Rattle.field.specs.Laws.{Neighbour, neighbour, held-column, column-of-key, row-of-key, few-columns}
+use Rattle.field.proofs.Passed.{passed}
 
 -- one step more costs one step more
 one-more : (near far step w v : ℕ) → near ≤ far + 1 → step ≡ w → far * step ≤ v → near * step ≤ w + v
@@ -58,3 +61,7 @@ module _ (l : Layout) (map : List ℕ) (few : l .columns ≤ 256) where
 
   pub guess-true : True (fieldMeaning l map) (fieldGuess l map)
   guess-true k ks w h r = rw h (least r)
+
+-- the same for what the check passed
+pub passed-true : (l : Layout) (map : List ℕ) → verdict l map ≡ Ok tt → True (fieldMeaning l map) (fieldGuess l map)
+passed-true l map e = guess-true l map (few-columns l (passed l map e .range))

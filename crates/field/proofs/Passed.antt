@@ -46,3 +46,13 @@ passed l map e = at (inRange l) (eqb (length map) (l .columns * l .rows)) (first
     at true true (Some n) r w f h = absurd h
     at true false first r w f h = absurd h
     at false whole first r w f h = absurd h
+
+-- each of these by itself, for `search`
+pub passed-range : (l : Layout) (map : List ℕ) → verdict l map ≡ Ok tt → inRange l ≡ true
+passed-range l map e = passed l map e .range
+
+pub passed-whole : (l : Layout) (map : List ℕ) → verdict l map ≡ Ok tt → length map ≡ l .columns * l .rows
+passed-whole l map e = passed l map e .whole
+
+pub passed-cells : (l : Layout) (map : List ℕ) → verdict l map ≡ Ok tt → (i : ℕ) → isCell (getD map i 0) ≡ true
+passed-cells l map e = passed l map e .cells

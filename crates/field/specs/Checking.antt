@@ -32,6 +32,7 @@ abbrev pub firstWrong : ℕ → List ℕ → Option ℕ
 firstWrong position [] = None
 firstWrong position (byte ∷ bytes) = cond (isCell byte) (firstWrong (position + 1) bytes) (Some position)
 
+-- the answer about the bytes, by the first wrong position
 abbrev pub byteVerdict : Option ℕ → Result (Unit {0}) FieldRefusal
 byteVerdict None = Ok tt
 byteVerdict (Some position) = Err (Byte position)

@@ -17,6 +17,7 @@ rowOf k = k / 65536
 abbrev pub fieldHeld : Layout → List ℕ → ℕ → Bool
 fieldHeld l map k = heldAt l map (columnOf k) (rowOf k)
 
+-- what a field says of each key, but for the guess
 abbrev pub fieldMeaning : Layout → List ℕ → Meaning
 fieldMeaning l map =
     record {
@@ -27,5 +28,6 @@ fieldMeaning l map =
       goal = λ k. cond (fieldHeld l map k) (targetAt l (columnOf k) (rowOf k)) false;
     }
 
+-- the guess of a field at each key
 abbrev pub fieldGuess : Layout → List ℕ → ℕ → ℕ
 fieldGuess l map k = cond (fieldHeld l map k) (guessAt l (columnOf k) (rowOf k)) 0

@@ -1,7 +1,8 @@
-// The size of a field, what a step on it costs, and where it ends.
+// What a field is, but for its map.
 use kinds::Cell;
 use kinds::cell::CellDebug as _;
 
+// The size of a field, what a step on it costs, and where it ends.
 #[derive(Clone, Copy, Debug)]
 pub struct Layout {
     pub columns: u16,

@@ -1,3 +1,5 @@
+// Refusals of fields.
+
 // Why a field cannot be made.
 #[derive(Clone, Copy, Debug)]
 pub enum FieldRefusal {

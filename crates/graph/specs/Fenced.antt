@@ -16,6 +16,7 @@ fencedRoad barred M (opened to w) = cond (bars barred M to) closed (opened to w)
 fencedRoad barred M closed = closed
 fencedRoad barred M (faulty f) = faulty (deeper f)
 
+-- the graph past the fence
 abbrev pub fenced : List Bool → Meaning → Meaning
 fenced barred M =
     record {
@@ -26,5 +27,6 @@ fenced barred M =
       goal = λ k. cond (bars barred M k) false (M .goal k);
     }
 
+-- its guess: that of the graph below, and zero at barred keys
 abbrev pub fencedGuess : List Bool → Meaning → (ℕ → ℕ) → ℕ → ℕ
 fencedGuess barred M guess k = cond (bars barred M k) 0 (guess k)

@@ -22,6 +22,7 @@ tolledRoad K charged toll M rank (opened to w) = cond (charges charged M to) (de
 tolledRoad K charged toll M rank closed = closed
 tolledRoad K charged toll M rank (faulty f) = faulty (deeper f)
 
+-- the graph past the toll; its guess is that of the graph below
 abbrev pub tolled : Kind → List Bool → ℕ → Meaning → Meaning
 tolled K charged toll M =
     record {

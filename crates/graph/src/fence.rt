@@ -19,6 +19,7 @@ pub struct Fence<G> {
 }
 
 impl<G: Graph> Fence<G> {
+    // The graph under a fence that bars these zones.
     pub fn new(below: G, barred: [bool; 64]) -> Fence<G>
         ensures over { λ r. ⌜ r .below ≡ below ⌝ }
         ensures table { λ r. ⌜ r .barred ≡ barred ⌝ }

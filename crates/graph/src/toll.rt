@@ -22,6 +22,7 @@ pub struct Toll<G, C> {
 }
 
 impl<C: CostKind, G: Graph<Cost = C>> Toll<G, C> {
+    // The graph under a toll of this cost on these zones.
     pub fn new(below: G, cost: C, charged: [bool; 64]) -> Toll<G, C>
         ensures over { λ r. ⌜ r .below ≡ below ⌝ }
         ensures price { λ r. ⌜ r .cost ≡ cost ⌝ }

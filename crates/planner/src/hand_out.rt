@@ -1,4 +1,6 @@
 // The next route of the last search.
+ghost use mathlib.Core.Path.{_≡_};
+ghost use lib.Dec.{ltb};
 ghost use lib.ListN.{length};
 ghost use Rattle.kinds.specs.Kind.{kind};
 ghost use Rattle.search.specs.Calls.{Call, handed-out};
@@ -8,6 +10,13 @@ use crate::planner_type::Planner;
 use kinds::CostKind;
 use kinds::NodeKind;
 use search::HandOutRefusal;
+
+// Whether an output cannot take so many nodes.
+fn too_short<N: NodeKind>(out: &[N], needed: usize) -> bool
+    ensures { λ r. ⌜ r ≡ ltb (length (now (out .entry))) needed ⌝ }
+{
+    out.len() < needed
+}
 
 impl<'a, N: NodeKind, C: CostKind> Planner<'a, N, C> {
     // Writes the next route into the first entries, and answers its length; or answers that there is none left. A refusal
@@ -21,7 +30,7 @@ impl<'a, N: NodeKind, C: CostKind> Planner<'a, N, C> {
             None => Ok(None),
             Some(row) => {
                 let needed = self.frontier.depth(row);
-                if out.len() < needed {
+                if too_short(out, needed) {
                     return Err(HandOutRefusal::Short { needed });
                 }
                 self.frontier.write_back(row, needed, out);

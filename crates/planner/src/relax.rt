@@ -5,7 +5,7 @@ ghost use Prim.Native.Nat.{ℕ, _+_, _<_, _≤_};
 ghost use lib.Dec.{ltb};
 ghost use lib.ListN.{length, getD};
 ghost use Rattle.std.specs.declared.option.Option.the-variants.{Some, None};
-ghost use Rattle.kinds.specs.Kind.{kind};
+ghost use Rattle.kinds.specs.Kind.{kind, sumOf};
 ghost use Rattle.graph.specs.Meaning.{meaning};
 ghost use Rattle.store.specs.Registers.{listed};
 ghost use Rattle.store.specs.Rows.{numberOf};
@@ -18,6 +18,24 @@ use graph::Graph;
 use kinds::CostKind;
 use kinds::NodeKind;
 use search::refusal::SeekRefusal;
+
+// A sum of costs with the guess of the cost ahead of a node.
+fn estimate<N: NodeKind, C: CostKind, G: Graph<Node = N, Cost = C>>(
+    graph: &G,
+    node: N,
+    sum: C,
+) -> Option<C>
+    ensures { λ r. ⌜ sumOf (C·CostKind .weight) r ≡ cond (C·CostKind .fits (C·CostKind .weight sum) (G·Graph .guesses (now (graph .entry)) (N·NodeKind .key node))) (Some (C·CostKind .weight sum + G·Graph .guesses (now (graph .entry)) (N·NodeKind .key node))) None ⌝ }
+{
+    sum.sum(graph.guess(&node))
+}
+
+// Whether a sum is less than the cost so far.
+fn undercuts<C: CostKind>(sum: C, cost: C) -> bool
+    ensures { λ r. ⌜ r ≡ ltb (C·CostKind .weight sum) (C·CostKind .weight cost) ⌝ }
+{
+    sum.less(&cost)
+}
 
 impl<'a, N: NodeKind, C: CostKind> Frontier<'a, N, C> {
     // Row `at`, of this node and cost, enters the heap in place of its older entry.
@@ -35,13 +53,13 @@ impl<'a, N: NodeKind, C: CostKind> Frontier<'a, N, C> {
         ensures after { λ _. ⌜ After (N·NodeKind .key) (N·NodeKind .marks) (C·CostKind .weight) (now (self .entry)) (now (self .exit)) ⌝ }
         ensures answer { λ r. ⌜ resultOf r (stateOf (N·NodeKind .key) (C·CostKind .weight) (now (self .exit))) ≡ pushed (kind (C·CostKind .fits) (C·CostKind .greatest)) (meaning (G·Graph .holds) (G·Graph .zones) (G·Graph .counts) (G·Graph .roads) (G·Graph .goals) (now (graph .entry))) (G·Graph .guesses (now (graph .entry))) (capacity (now (self .entry))) (C·CostKind .fits (C·CostKind .weight sum) (G·Graph .guesses (now (graph .entry)) (N·NodeKind .key node))) row rank (N·NodeKind .key node) (C·CostKind .weight sum) at (stateOf (N·NodeKind .key) (C·CostKind .weight) (now (self .entry))) ⌝ }
     {
-        match sum.sum(graph.guess(&node)) {
+        match estimate(graph, node, sum) {
             None => Err(SeekRefusal::NoSum {
                 row,
                 rank: Some(rank),
             }),
-            Some(estimate) => {
-                self.heap.push(at, estimate, sum);
+            Some(total) => {
+                self.heap.push(at, total, sum);
                 Ok(())
             }
         }
@@ -91,7 +109,7 @@ impl<'a, N: NodeKind, C: CostKind> Frontier<'a, N, C> {
         ensures answer { λ r. ⌜ resultOf r (stateOf (N·NodeKind .key) (C·CostKind .weight) (now (self .exit))) ≡ arrive (kind (C·CostKind .fits) (C·CostKind .greatest)) (meaning (G·Graph .holds) (G·Graph .zones) (G·Graph .counts) (G·Graph .roads) (G·Graph .goals) (now (graph .entry))) (G·Graph .guesses (now (graph .entry))) (capacity (now (self .entry))) (Some at) row rank (N·NodeKind .key node) (C·CostKind .weight sum) (stateOf (N·NodeKind .key) (C·CostKind .weight) (now (self .entry))) ⌝ }
     {
         let old = self.register.value(at);
-        if sum.less(&old.cost) {
+        if undercuts(sum, old.cost) {
             self.register.set_value(
                 at,
                 Reached {

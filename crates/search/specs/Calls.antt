@@ -35,12 +35,16 @@ answer (stopped r) = refused r
 answer none = no-route
 answer (found c rs) = costs c
 
--- a seek by a method, over a graph and from a start: what was held is dropped, and the outcome's routes are held
-pub record Seek (K : Kind) (s : Held) (m : Method) (M : Meaning) (guess : ℕ → ℕ) (start : ℕ) (a : Answer) (t : Held) : Type 0 where
+-- a search that comes to some outcome: what was held is dropped, and the outcome's routes are held
+pub record Sought (Comes : Outcome → Type 0) (s : Held) (a : Answer) (t : Held) : Type 0 where
   pub outcome : Outcome
-  pub comes : Answers m K M guess (s .capacity) start outcome
+  pub comes : Comes outcome
   pub answers : a ≡ answer outcome
   pub leaves : t ≡ record { capacity = s .capacity; pending = routes outcome }
+
+-- a seek by a method, over a graph and from a start
+abbrev pub Seek : Kind → Held → Method → Meaning → (guess : ℕ → ℕ) → (start : ℕ) → Answer → Held → Type 0
+Seek K s m M guess start a t = Sought (Answers m K M guess (s .capacity) start) s a t
 
 -- the next of the routes, into room for so many nodes
 abbrev pub handed : List (List ℕ) → (room : ℕ) → Given

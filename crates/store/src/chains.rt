@@ -107,7 +107,8 @@ pub(crate) fn value_at<N: NodeKind, V: Copy>(rows: &[Row<N, V>], i: usize) -> V
     requires { ⌜ i < length (now rows) ⌝ }
     ensures { λ r. ⌜ ((d : Row N V) → r ≡ getD (now (rows .entry)) i d .value) ⌝ }
 {
-    rows[i].value
+    let row = rows[i];
+    row.value
 }
 
 // Writes the value of row i, and nothing else.

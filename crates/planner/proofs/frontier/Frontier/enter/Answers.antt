@@ -28,7 +28,7 @@ returns-in-None g c =
     let fit = none-fits _ _ (c .in-None .ensures tt) in
     record {
       after = record { good = c .pre .good; room = refl; grows = omega arith };
-      answer = not-entered (kind (g .C·CostKind .fits) (g .C·CostKind .greatest)) M h _ _ _ _ _ _ _ _ (ap (g .C·CostKind .fits (g .C·CostKind .weight (c .args .sum))) (sym (c .guess .ensures)) ∙ fit);
+      answer = not-entered (kind (g .C·CostKind .fits) (g .C·CostKind .greatest)) M h _ _ _ _ _ _ _ _ fit;
     }
 
 pub returns-in-Some : need.returns-in-Some
@@ -39,7 +39,7 @@ returns-in-Some g c =
     let w = g .C·CostKind .weight in
     let f = c .args .self .now in
     let fit = some-fits _ _ _ (c .in-Some .ensures tt) in
-    let x : ℕ × g .C .Denot × g .C .Denot = (c .args .at, c .in-Some .estimate, c .args .sum) in
+    let x : ℕ × g .C .Denot × g .C .Denot = (c .args .at, c .in-Some .total, c .args .sum) in
     record {
       after = record {
         good = record {
@@ -53,8 +53,8 @@ returns-in-Some g c =
         grows = omega arith;
       };
       answer =
-          entered (kind (g .C·CostKind .fits) (g .C·CostKind .greatest)) M h (capacity f) _ (c .args .row) (c .args .rank) (g .N·NodeKind .key (c .args .node)) (w (c .args .sum)) (c .args .at) (rowsOf (g .N·NodeKind .key) w (listed (f .register))) (entriesOf w (waits (f .heap))) _ (w (c .in-Some .estimate))
-          (ap (g .C·CostKind .fits (w (c .args .sum))) (sym (c .guess .ensures)) ∙ fit .0)
-          (fit .1 ∙ ap (λ (n : ℕ). w (c .args .sum) + n) (c .guess .ensures))
+          entered (kind (g .C·CostKind .fits) (g .C·CostKind .greatest)) M h (capacity f) _ (c .args .row) (c .args .rank) (g .N·NodeKind .key (c .args .node)) (w (c .args .sum)) (c .args .at) (rowsOf (g .N·NodeKind .key) w (listed (f .register))) (entriesOf w (waits (f .heap))) _ (w (c .in-Some .total))
+          (fit .0)
+          (fit .1)
           (ap (entriesOf w) (c .push .ensures .waits) ∙ map-append (entryOf w) _ (x ∷ []) ∙ ap (λ (q : List Entry). q ++ entryOf w x ∷ []) (sym (without-entries w (c .args .at) (waits (f .heap)))));
     }

@@ -56,8 +56,8 @@ enter-requires g c κs =
     let t = written key (g .N·NodeKind .marks) w f (c .set-value .last .self) (c .pre .good) (a .kept) (a .room) (c .args .at) (getD (listed (f .register)) (c .args .at) d .0, record { cost = c .args .sum; parent = c .args .row }) (c .pre .inside) (a .listed d) in
     record { good = t .good; inside = omega (arith, t .grows, i .0) }
 
-pub returns-then-less : need.returns-then-less
-returns-then-less g c =
+pub returns-then-undercuts : need.returns-then-undercuts
+returns-then-undercuts g c =
     let key = g .N·NodeKind .key in
     let w = g .C·CostKind .weight in
     let f = c .args .self .now in
@@ -70,14 +70,14 @@ returns-then-less g c =
       after = then f _ _ t (c .enter .ensures .after);
       answer =
           cheaper (kind (g .C·CostKind .fits) (g .C·CostKind .greatest)) (meaning (g .G·Graph .holds) (g .G·Graph .zones) (g .G·Graph .counts) (g .G·Graph .roads) (g .G·Graph .goals) (c .args .graph .now)) (g .G·Graph .guesses (c .args .graph .now)) (capacity f) _ (c .args .row) (c .args .rank) (key (c .args .node)) (w (c .args .sum)) (c .args .at) (rowsOf key w (listed (f .register))) _ (entriesOf w (waits (f .heap))) _
-          (old-cost key w (listed (f .register)) (c .args .at) (w (c .args .sum)) (c .value-old .result) _ (i .0) (c .value-old .ensures) (c .less .ensures) ∙ c .if-less .taken)
+          (old-cost key w (listed (f .register)) (c .args .at) (w (c .args .sum)) (c .value-old .result) _ (i .0) (c .value-old .ensures) (c .undercuts .ensures) ∙ c .if-undercuts .taken)
           (a .room)
           (row-set key w (listed (f .register)) (c .args .at) (key (c .args .node)) v _ (c .pre .there) (a .listed))
           (c .enter .ensures .answer);
     }
 
-pub returns-else-less : need.returns-else-less
-returns-else-less g c =
+pub returns-else-undercuts : need.returns-else-undercuts
+returns-else-undercuts g c =
     let key = g .N·NodeKind .key in
     let w = g .C·CostKind .weight in
     let f = c .args .self .now in
@@ -86,5 +86,5 @@ returns-else-less g c =
       after = record { good = c .pre .good; room = refl; grows = omega arith };
       answer =
           no-cheaper (kind (g .C·CostKind .fits) (g .C·CostKind .greatest)) (meaning (g .G·Graph .holds) (g .G·Graph .zones) (g .G·Graph .counts) (g .G·Graph .roads) (g .G·Graph .goals) (c .args .graph .now)) (g .G·Graph .guesses (c .args .graph .now)) (capacity f) (c .args .row) (c .args .rank) (key (c .args .node)) (w (c .args .sum)) (c .args .at) (stateOf key w f)
-          (old-cost key w (listed (f .register)) (c .args .at) (w (c .args .sum)) (c .value-old .result) _ (i .0) (c .value-old .ensures) (c .less .ensures) ∙ c .if-less .left);
+          (old-cost key w (listed (f .register)) (c .args .at) (w (c .args .sum)) (c .value-old .result) _ (i .0) (c .value-old .ensures) (c .undercuts .ensures) ∙ c .if-undercuts .left);
     }

@@ -5,7 +5,7 @@ use Prim.Native.Nat.{ℕ, _<_, _≤_}
 use native.Mathlib.Omega.{arith}
 use lib.Dec.{leb}
 use lib.ListN.{length, take}
-use borrow.Author.Tests.{le-leb, lt-leb}
+use borrow.Author.Tests.{le-leb, lt-leb, ltb-true, ltb-false}
 use Rattle.std.specs.declared.option.Option.{Option}
 use Rattle.std.specs.declared.option.Option.the-variants.{Some, None}
 use Rattle.std.proofs.shelf.Lists.{length-map}
@@ -37,8 +37,8 @@ keeps-none rs r n room e l h = let t : leb (length r) room ≡ true = le-leb _ _
 leaving : (n : Capacity) {rs rs′ : List (List ℕ)} → rs ≡ rs′ → _≡_ {A = Held} (record { capacity = n; pending = rs }) (record { capacity = n; pending = rs′ })
 leaving n e = ap (λ (x : List (List ℕ)). record { capacity = n; pending = x }) e
 
-pub returns-then-out-needed : need.returns-then-out-needed
-returns-then-out-needed g c =
+pub returns-then-too-short : need.returns-then-too-short
+returns-then-too-short g c =
     let key = g .N·NodeKind .key in
     let w = g .C·CostKind .weight in
     let p = c .args .self .now in
@@ -46,15 +46,15 @@ returns-then-out-needed g c =
     let rs = one (rowsOf key w l) (p .sink) (c .in-Some .row) (length l) (c .in-Some .is) (sym (length-map l (rowOf key w))) in
     record {
       call = record {
-        gives = gives-short _ _ _ _ rs (c .depth-needed .ensures) (c .if-out-needed .taken);
-        leaves = leaving _ (keeps-short _ _ _ _ rs (c .depth-needed .ensures) (c .if-out-needed .taken));
+        gives = gives-short _ _ _ _ rs (c .depth-needed .ensures) (ltb-true _ _ (sym (c .too-short .ensures) ∙ c .if-too-short .taken));
+        leaves = leaving _ (keeps-short _ _ _ _ rs (c .depth-needed .ensures) (ltb-true _ _ (sym (c .too-short .ensures) ∙ c .if-too-short .taken)));
       };
       within = tt;
       rest = refl;
     }
 
-pub returns-else-out-needed : need.returns-else-out-needed
-returns-else-out-needed g c =
+pub returns-else-too-short : need.returns-else-too-short
+returns-else-too-short g c =
     let key = g .N·NodeKind .key in
     let w = g .C·CostKind .weight in
     let p = c .args .self .now in
@@ -62,9 +62,9 @@ returns-else-out-needed g c =
     let rs = one (rowsOf key w l) (p .sink) (c .in-Some .row) (length l) (c .in-Some .is) (sym (length-map l (rowOf key w))) in
     record {
       call = record {
-        gives = gives-whole _ _ _ _ _ rs (c .depth-needed .ensures) (c .if-out-needed .left) (c .write-back .ensures .keys);
-        leaves = leaving _ (keeps-none _ _ _ _ rs (c .depth-needed .ensures) (c .if-out-needed .left));
+        gives = gives-whole _ _ _ _ _ rs (c .depth-needed .ensures) (ltb-false _ _ (sym (c .too-short .ensures) ∙ c .if-too-short .left)) (c .write-back .ensures .keys);
+        leaves = leaving _ (keeps-none _ _ _ _ rs (c .depth-needed .ensures) (ltb-false _ _ (sym (c .too-short .ensures) ∙ c .if-too-short .left)));
       };
-      within = c .if-out-needed .left;
+      within = ltb-false _ _ (sym (c .too-short .ensures) ∙ c .if-too-short .left);
       rest = c .write-back .ensures .rest;
     }
