@@ -1,4 +1,6 @@
 // The planner for a caller in C or Rust: one search over a chart, run again and again by one planner.
+#![tactic(auto)]
+
 ghost use Rattle.std.specs.Prelude.{◌≡◌, length, take};
 ghost use Rattle.capi.specs.Codes.{method_numbered};
 ghost use Rattle.capi.specs.Tells.{Batch};

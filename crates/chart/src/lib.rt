@@ -1,4 +1,6 @@
 // A chart of stations, read out of borrowed bytes: its checking, its making, and its answers as a graph.
+#![tactic(auto)]
+
 pub mod borrowed;
 pub mod checking;
 pub mod making;

@@ -1,4 +1,6 @@
 // Fields: maps of cells, costed in milliseconds.
+#![tactic(auto)]
+
 pub mod checking;
 pub mod grid;
 pub mod layout;

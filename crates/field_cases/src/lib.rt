@@ -1,3 +1,5 @@
 // Small fields under fences and tolls, as tests.
+#![tactic(auto)]
+
 #[cfg(test)]
 mod tests;

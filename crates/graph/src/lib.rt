@@ -1,4 +1,6 @@
 // What a graph is: six questions about nodes, and what their answers mean.
+#![tactic(auto)]
+
 pub mod fault;
 pub mod fence;
 pub mod passing;

@@ -1,4 +1,6 @@
 // What a node kind and a cost kind are, with two of each.
+#![tactic(auto)]
+
 pub mod cell;
 pub mod cost_kind;
 pub mod millis;

@@ -1,5 +1,7 @@
 // Reads a field that is drawn as text on standard input, seeks a route over it by each search, and prints the map with the
 // route drawn on it.
+#![tactic(auto)]
+
 use std::io;
 
 mod canvas;

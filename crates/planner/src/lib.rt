@@ -1,4 +1,6 @@
 // A planner over lent rows and links: it finds cheapest routes and hands them out.
+#![tactic(auto)]
+
 mod astar;
 mod begin;
 mod dijkstra;

@@ -1,4 +1,6 @@
 // Searches over a chart, and the lines that say what they came to.
+#![tactic(auto)]
+
 pub mod lines;
 pub mod memory;
 pub mod method;

@@ -1,6 +1,8 @@
 // Reads a chart on standard input, and prints the cheapest route from station 0 by each search.
 //
 // Arguments name the searches to run; with none, all are run.
+#![tactic(auto)]
+
 use anyhow::anyhow;
 use report::Method;
 use std::env;

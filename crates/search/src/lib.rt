@@ -1,4 +1,6 @@
 // The searches as they are published, over keys and weights.
+#![tactic(auto)]
+
 pub mod laws;
 pub mod refusal;
 

@@ -1,4 +1,6 @@
 // A register and a heap over lent slices, for every node kind and every cost kind; they know nothing of graphs.
+#![tactic(auto)]
+
 mod chains;
 mod deal;
 pub mod heap;

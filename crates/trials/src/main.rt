@@ -1,4 +1,5 @@
 // Examples of what the containers and the searches answer; what this prints is compared with the file `stdout`.
+#![tactic(auto)]
 
 mod containers;
 mod drawing;

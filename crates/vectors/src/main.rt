@@ -1,5 +1,7 @@
 // Replays charts whose answers the Rust has given: each line of standard input is a chart in hexadecimal digits, and what is
 // printed for all of them is compared with the file `stdout`. `oracle/replay` makes both files.
+#![tactic(auto)]
+
 use std::alloc::{AllocError, Global};
 use std::io::{BufRead, BufReader};
 
