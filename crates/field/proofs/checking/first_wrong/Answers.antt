@@ -13,11 +13,11 @@ found i xs h t = rw (drop_more xs i 0 h, t) refl
 none_left : (i : ℕ) (xs : List ℕ) → length xs ≤ i → first_wrong i (drop i xs) ≡ None
 none_left i xs h = rw (drop_all i xs h) refl
 
-pub returns-then-not-is-cell : goal.returns-then-not-is-cell
-returns-then-not-is-cell c = sym (found c.loop-i.i c.args.map.now (omega arith) (sym c.is-cell.ensures ∙ c.if-not-is-cell.true)) ∙ c.loop-i.invariant
+pub returns-then-not-is_cell : goal.returns-then-not-is_cell
+returns-then-not-is_cell c = sym (found c.loop-i.i c.args.map.now (omega arith) (sym c.is_cell.ensures ∙ c.if-not-is_cell.true)) ∙ c.loop-i.invariant
 
 pub loop-i-preserved : goal.loop-i-preserved
-loop-i-preserved c = go_on c.loop-i.i c.args.map.now (omega arith) (sym c.is-cell.ensures ∙ c.if-not-is-cell.false) ∙ c.loop-i.invariant
+loop-i-preserved c = go_on c.loop-i.i c.args.map.now (omega arith) (sym c.is_cell.ensures ∙ c.if-not-is_cell.false) ∙ c.loop-i.invariant
 
 pub returns : goal.returns
 returns c = sym (none_left c.loop-i.i c.args.map.now (omega arith)) ∙ c.loop-i.invariant

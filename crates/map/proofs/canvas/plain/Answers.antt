@@ -14,8 +14,8 @@ all_taken f i bytes h = ap (map f) (take_all i bytes h)
 
 pub loop-byte-preserved : goal.loop-byte-preserved
 loop-byte-preserved c =
-    one_more sign_of c.loop-byte.byte-index _ c.sign-of.result c.args.bytes.now _ (omega arith) c.sign-of.ensures
-    (pushed (c.sign-of.result ∷ []) c.loop-byte.invariant c.in-ok-push.was c.push.ensures.items)
+    one_more sign_of c.loop-byte.byte-index _ c.sign_of.result c.args.bytes.now _ (omega arith) c.sign_of.ensures
+    (pushed (c.sign_of.result ∷ []) c.loop-byte.invariant c.in_ok-push.was c.push.ensures.items)
 
 pub returns : goal.returns
 returns c = c.loop-byte.invariant ∙ all_taken sign_of c.loop-byte.byte-index c.args.bytes.now (omega arith)

@@ -16,5 +16,5 @@ front n xs ys h = take-append-le n xs ys (omega (arith, h)) ∙ take_all n xs (o
 pub returns : goal.returns
 returns c =
     let plan = c.args.drawing.now.plan in
-    let drawn = drawn_on plan.layout.columns plan.start plan.layout.target c.args.route.now _ _ c.mark-route.new.signs c.mark-route.ensures (c.as-mut-slice.ensures.value ∙ c.in-ok-signs.ensures ∙ ap (map sign_of) c.as-slice.ensures.value) in
-    front c.in-ok-signs.signs.len c.mark-route.new.signs _ (omega (arith, c.mark-route.auto.signs, c.as-mut-slice.ensures.len)) ∙ drawn
+    let drawn = drawn_on plan.layout.columns plan.start plan.layout.target c.args.route.now _ _ c.mark_route.new.signs c.mark_route.ensures (c.as_mut_slice.ensures.value ∙ c.in_ok-signs.ensures ∙ ap (map sign_of) c.as_slice.ensures.value) in
+    front c.in_ok-signs.signs.len c.mark_route.new.signs _ (omega (arith, c.mark_route.auto.signs, c.as_mut_slice.ensures.len)) ∙ drawn

@@ -9,26 +9,26 @@ returns-then-r-n g c k d lk e =
     let xs = c.args.rows.now in
     let b : ℕ = c.mark.result % length xs in
     let kb : bucket g.N.NodeKind.marks xs d k ≡ b = ap (λ v. v % length xs) (g.met.N.NodeKind.alike (get_or xs k d).node c.args.node.now e ∙ sym c.mark.ensures) in
-    let o = head_of g.N.NodeKind.marks xs c.args.n c.requires.linked b c.head-at-r.result c.head-at-r.ensures k d lk kb in
+    let o = head_of g.N.NodeKind.marks xs c.args.n c.requires.linked b c.head_at-r.result c.head_at-r.ensures k d lk kb in
     omega (arith, o.0, c.if-r-n.true)
 
-pub returns-then-bucket-at-b : goal.returns-then-bucket-at-b
-returns-then-bucket-at-b g c k d lk e =
+pub returns-then-bucket_at-b : goal.returns-then-bucket_at-b
+returns-then-bucket_at-b g c k d lk e =
     let xs = c.args.rows.now in
     let b : ℕ = c.mark.result % length xs in
     let kb : bucket g.N.NodeKind.marks xs d k ≡ b = ap (λ v. v % length xs) (g.met.N.NodeKind.alike (get_or xs k d).node c.args.node.now e ∙ sym c.mark.ensures) in
-    let o = head_of g.N.NodeKind.marks xs c.args.n c.requires.linked b c.head-at-r.result c.head-at-r.ensures k d lk kb in
-    c.if-bucket-at-b.true (c.bucket-at.ensures d ∙ o.1)
+    let o = head_of g.N.NodeKind.marks xs c.args.n c.requires.linked b c.head_at-r.result c.head_at-r.ensures k d lk kb in
+    c.if-bucket_at-b.true (c.bucket_at.ensures d ∙ o.1)
 
 pub walk-init : goal.walk-init
 walk-init g c =
     let xs = c.args.rows.now in
     let b : ℕ = c.mark.result % length xs in (
       c.if-r-n.false,
-      λ d. sym (c.bucket-at.ensures d) ∙ c.if-bucket-at-b.false,
+      λ d. sym (c.bucket_at.ensures d) ∙ c.if-bucket_at-b.false,
       λ k d lk e.
           let kb : bucket g.N.NodeKind.marks xs d k ≡ b = ap (λ v. v % length xs) (g.met.N.NodeKind.alike (get_or xs k d).node c.args.node.now e ∙ sym c.mark.ensures) in
-          (head_of g.N.NodeKind.marks xs c.args.n c.requires.linked b c.head-at-r.result c.head-at-r.ensures k d lk kb).2,
+          (head_of g.N.NodeKind.marks xs c.args.n c.requires.linked b c.head_at-r.result c.head_at-r.ensures k d lk kb).2,
     )
 
 pub returns-then-p-r : goal.returns-then-p-r
@@ -39,29 +39,29 @@ returns-then-p-r g c =
     let r = c.walk.r in
     let q : ℕ = key c.args.node.now in
     let b : ℕ = c.mark.result % length xs in
-    let p = c.next-at-p.result in
+    let p = c.next_at-p.result in
     let step : (k : ℕ) (d : Row g.row.N.Denot g.row.V.Denot) → k < c.args.n → key (get_or xs k d).node ≡ q → (p < r) × (bucket m xs d p ≡ b) × (k ≤ p) =
     λ k d lk e.
     let kb : bucket m xs d k ≡ b = ap (λ v. v % length xs) (g.met.N.NodeKind.alike (get_or xs k d).node c.args.node.now e ∙ sym c.mark.ensures) in
-    let lr : k < r = before_it key xs q r k d (sym (c.same-at.ensures d) ∙ c.if-same-at.false) e (c.walk.invariant.2 k d lk e) in
-    next_of m xs c.args.n c.requires.linked r p b c.next-at-p.ensures c.walk.invariant.0 c.walk.invariant.1 k d lr kb in
+    let lr : k < r = before_it key xs q r k d (sym (c.same_at.ensures d) ∙ c.if-same_at.false) e (c.walk.invariant.2 k d lk e) in
+    next_of m xs c.args.n c.requires.linked r p b c.next_at-p.ensures c.walk.invariant.0 c.walk.invariant.1 k d lr kb in
     λ k d lk e. omega (arith, (step k d lk e).0, c.if-p-r.true)
 
-pub returns-then-bucket-at-b-2 : goal.returns-then-bucket-at-b-2
-returns-then-bucket-at-b-2 g c =
+pub returns-then-bucket_at-b-2 : goal.returns-then-bucket_at-b-2
+returns-then-bucket_at-b-2 g c =
     let m = g.N.NodeKind.marks in
     let key = g.N.NodeKind.key in
     let xs = c.args.rows.now in
     let r = c.walk.r in
     let q : ℕ = key c.args.node.now in
     let b : ℕ = c.mark.result % length xs in
-    let p = c.next-at-p.result in
+    let p = c.next_at-p.result in
     let step : (k : ℕ) (d : Row g.row.N.Denot g.row.V.Denot) → k < c.args.n → key (get_or xs k d).node ≡ q → (p < r) × (bucket m xs d p ≡ b) × (k ≤ p) =
     λ k d lk e.
     let kb : bucket m xs d k ≡ b = ap (λ v. v % length xs) (g.met.N.NodeKind.alike (get_or xs k d).node c.args.node.now e ∙ sym c.mark.ensures) in
-    let lr : k < r = before_it key xs q r k d (sym (c.same-at.ensures d) ∙ c.if-same-at.false) e (c.walk.invariant.2 k d lk e) in
-    next_of m xs c.args.n c.requires.linked r p b c.next-at-p.ensures c.walk.invariant.0 c.walk.invariant.1 k d lr kb in
-    λ k d lk e. c.if-bucket-at-b-2.true (c.bucket-at-in-walk.ensures d ∙ (step k d lk e).1)
+    let lr : k < r = before_it key xs q r k d (sym (c.same_at.ensures d) ∙ c.if-same_at.false) e (c.walk.invariant.2 k d lk e) in
+    next_of m xs c.args.n c.requires.linked r p b c.next_at-p.ensures c.walk.invariant.0 c.walk.invariant.1 k d lr kb in
+    λ k d lk e. c.if-bucket_at-b-2.true (c.bucket_at-in-walk.ensures d ∙ (step k d lk e).1)
 
 pub walk-preserved : goal.walk-preserved
 walk-preserved g c =
@@ -71,10 +71,10 @@ walk-preserved g c =
     let r = c.walk.r in
     let q : ℕ = key c.args.node.now in
     let b : ℕ = c.mark.result % length xs in
-    let p = c.next-at-p.result in
+    let p = c.next_at-p.result in
     let step : (k : ℕ) (d : Row g.row.N.Denot g.row.V.Denot) → k < c.args.n → key (get_or xs k d).node ≡ q → (p < r) × (bucket m xs d p ≡ b) × (k ≤ p) =
     λ k d lk e.
     let kb : bucket m xs d k ≡ b = ap (λ v. v % length xs) (g.met.N.NodeKind.alike (get_or xs k d).node c.args.node.now e ∙ sym c.mark.ensures) in
-    let lr : k < r = before_it key xs q r k d (sym (c.same-at.ensures d) ∙ c.if-same-at.false) e (c.walk.invariant.2 k d lk e) in
-    next_of m xs c.args.n c.requires.linked r p b c.next-at-p.ensures c.walk.invariant.0 c.walk.invariant.1 k d lr kb in
-    (omega (arith, c.if-p-r.false, c.walk.invariant.0), λ d. sym (c.bucket-at-in-walk.ensures d) ∙ c.if-bucket-at-b-2.false, λ k d lk e. (step k d lk e).2)
+    let lr : k < r = before_it key xs q r k d (sym (c.same_at.ensures d) ∙ c.if-same_at.false) e (c.walk.invariant.2 k d lk e) in
+    next_of m xs c.args.n c.requires.linked r p b c.next_at-p.ensures c.walk.invariant.0 c.walk.invariant.1 k d lr kb in
+    (omega (arith, c.if-p-r.false, c.walk.invariant.0), λ d. sym (c.bucket_at-in-walk.ensures d) ∙ c.if-bucket_at-b-2.false, λ k d lk e. (step k d lk e).2)

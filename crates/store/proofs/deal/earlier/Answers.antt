@@ -15,7 +15,7 @@ loop-i-preserved g c =
     let l : i < length xs = omega (arith, c.requires.fits) in
     let d = some_slot xs i l in
     let m = below_more xs a i d l in
-    let e : c.entry-at-e.result.push ≡ (at xs d i).push = ap (λ (x : Entry g.row.C.Denot). x.push) (c.entry-at-e.ensures d) in
+    let e : c.entry_at-e.result.push ≡ (at xs d i).push = ap (λ (x : Entry g.row.C.Denot). x.push) (c.entry_at-e.ensures d) in
     let inv = c.loop-i.invariant in
     elim c.if-e-a.branch [
       | then-e-a w ↦ let t = cond-true {A = ℕ} (ltb (at xs d i).push a) 1 0 (lt-ltb (at xs d i).push a (omega (arith, e, w.if-e-a.true))) in (omega (arith, w.k-is, inv.0, m, t), omega (arith, w.k-is, inv.1))

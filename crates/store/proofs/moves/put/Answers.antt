@@ -50,7 +50,7 @@ pub seat-requires-in-None : goal.seat-requires-in-None
 seat-requires-in-None g c =
     let d : Slot g.row.C.Denot = record { entry = c.args.e; place = 0; order = 0 } in
     let r = room c.args.slots.now c.args.n c.args.e.row d c.requires.fits c.requires.row_in c.requires.placed c.in-None.ensures in
-    record { i-in = r; row_in = c.requires.row_in; few = omega (arith, r, c.requires.few) }
+    record { i_in = r; row_in = c.requires.row_in; few = omega (arith, r, c.requires.few) }
 
 pub settle-requires-in-None : goal.settle-requires-in-None
 settle-requires-in-None g c =

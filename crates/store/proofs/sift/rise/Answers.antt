@@ -4,8 +4,8 @@ use Rattle.store.proofs.Seats.{same_trans, exchanged_same}
 use Rattle.store.proofs.Sifts.{loose_up, under_at, ahead_trans, crossed_at}
 use Rattle.store.proofs.sift.rise.Goals as goal
 
-pub returns-then-ahead-at : goal.returns-then-ahead-at
-returns-then-ahead-at g c =
+pub returns-then-ahead_at : goal.returns-then-ahead_at
+returns-then-ahead_at g c =
     let w = g.C.CostKind.weight in
     let h = c.loop-h.h in
     let up : ℕ = (h - 1) / 2 in
@@ -14,7 +14,7 @@ returns-then-ahead-at g c =
       inside = c.loop-h.invariant.0;
       placed = c.loop-h.invariant.1;
       loose = c.loop-h.invariant.2;
-      under = λ d. under_at (Ahead w) (ahead_trans w) (at xs d) (at xs d) c.args.n h up (omega arith) (omega arith) (c.if-ahead-at.ensures d);
+      under = λ d. under_at (Ahead w) (ahead_trans w) (at xs d) (at xs d) c.args.n h up (omega arith) (omega arith) (c.if-ahead_at.ensures d);
       same = c.loop-h.invariant.3;
     }
 

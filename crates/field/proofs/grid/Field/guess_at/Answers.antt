@@ -7,10 +7,10 @@ use Rattle.field.proofs.grid.Field.guess_at.Goals as goal
 few : (columns rows step : ℕ) → columns < 65536 → rows < 65536 → step ≤ 1000 → (columns + rows) * step ≤ 131070 * 1000
 few columns rows step c r s = mul-le (columns + rows) step 131070 1000 (omega arith) s
 
-pub overflow-mul-result : goal.overflow-mul-result
-overflow-mul-result c =
-    omega (arith, few c.abs-diff.result c.abs-diff-2.result c.args.self.now.layout.step c.abs-diff.type-inv c.abs-diff-2.type-inv (ranged c.args.self.now.layout c.args.self.now.range).step)
+pub overflow_mul-result : goal.overflow_mul-result
+overflow_mul-result c =
+    omega (arith, few c.abs_diff.result c.abs_diff-2.result c.args.self.now.layout.step c.abs_diff.type-inv c.abs_diff-2.type-inv (ranged c.args.self.now.layout c.args.self.now.range).step)
 
-pub invariant-of-result : goal.invariant-of-result
-invariant-of-result c =
-    (omega (arith, few c.abs-diff.result c.abs-diff-2.result c.args.self.now.layout.step c.abs-diff.type-inv c.abs-diff-2.type-inv (ranged c.args.self.now.layout c.args.self.now.range).step), tt)
+pub invariant_of-result : goal.invariant_of-result
+invariant_of-result c =
+    (omega (arith, few c.abs_diff.result c.abs_diff-2.result c.args.self.now.layout.step c.abs_diff.type-inv c.abs_diff-2.type-inv (ranged c.args.self.now.layout c.args.self.now.range).step), tt)

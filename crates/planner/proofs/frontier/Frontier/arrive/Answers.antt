@@ -23,12 +23,12 @@ returns-in-None g c =
     let w = g.C.CostKind.weight in
     let f = c.args.self.now in
     record {
-      after = c.found-new.ensures.after;
+      after = c.found_new.ensures.after;
       answer =
           arrives_new (kind g.C.CostKind.fits g.C.CostKind.greatest) (meaning g.G.Graph.holds g.G.Graph.zones g.G.Graph.counts g.G.Graph.roads g.G.Graph.goals c.args.graph.now) (g.G.Graph.guesses c.args.graph.now) (capacity f) _ _ (key c.args.node) _ (size f) (state_of key w f) _
           (find_rows key w (key c.args.node) (listed f.register) ∙ sym c.in-None.ensures)
           (sym (length-map (listed f.register) (row_of key w)))
-          c.found-new.ensures.answer;
+          c.found_new.ensures.answer;
     }
 
 pub returns-in-Some : goal.returns-in-Some
@@ -37,9 +37,9 @@ returns-in-Some g c =
     let w = g.C.CostKind.weight in
     let f = c.args.self.now in
     record {
-      after = c.found-again.ensures.after;
+      after = c.found_again.ensures.after;
       answer =
           arrives_known (kind g.C.CostKind.fits g.C.CostKind.greatest) (meaning g.G.Graph.holds g.G.Graph.zones g.G.Graph.counts g.G.Graph.roads g.G.Graph.goals c.args.graph.now) (g.G.Graph.guesses c.args.graph.now) (capacity f) _ _ (key c.args.node) _ c.in-Some.at (state_of key w f) _
           (find_rows key w (key c.args.node) (listed f.register) ∙ sym c.in-Some.ensures)
-          c.found-again.ensures.answer;
+          c.found_again.ensures.answer;
     }

@@ -35,8 +35,8 @@ row_set key w l j k v l' n e =
 pub value-old-requires : goal.value-old-requires
 value-old-requires g c = record { fits = c.requires.good.kept.fits; inside = (number_in g.N.NodeKind.key g.C.CostKind.weight _ _ _ c.requires.there).0 }
 
-pub set-value-requires : goal.set-value-requires
-set-value-requires g c = record { kept = c.requires.good.kept; inside = (number_in g.N.NodeKind.key g.C.CostKind.weight _ _ _ c.requires.there).0 }
+pub set_value-requires : goal.set_value-requires
+set_value-requires g c = record { kept = c.requires.good.kept; inside = (number_in g.N.NodeKind.key g.C.CostKind.weight _ _ _ c.requires.there).0 }
 
 pub enter-requires : goal.enter-requires
 enter-requires g c =
@@ -45,8 +45,8 @@ enter-requires g c =
     let f = c.args.self.now in
     let i = number_in key w _ _ _ c.requires.there in
     let d = some_of (listed f.register) c.args.at i.0 in
-    let a = c.set-value.ensures in
-    let t = written key g.N.NodeKind.marks w f c.set-value.new.self c.requires.good a.kept a.room c.args.at ((get_or (listed f.register) c.args.at d).0, record { cost = c.args.sum; parent = c.args.row }) c.requires.inside (a.listed d) in
+    let a = c.set_value.ensures in
+    let t = written key g.N.NodeKind.marks w f c.set_value.new.self c.requires.good a.kept a.room c.args.at ((get_or (listed f.register) c.args.at d).0, record { cost = c.args.sum; parent = c.args.row }) c.requires.inside (a.listed d) in
     record { good = t.good; inside = omega (arith, t.grows, i.0) }
 
 pub returns-then-undercuts : goal.returns-then-undercuts
@@ -56,9 +56,9 @@ returns-then-undercuts g c =
     let f = c.args.self.now in
     let i = number_in key w _ _ _ c.requires.there in
     let d = some_of (listed f.register) c.args.at i.0 in
-    let a = c.set-value.ensures in
+    let a = c.set_value.ensures in
     let v : Reached g.row.C.Denot = record { cost = c.args.sum; parent = c.args.row } in
-    let t = written key g.N.NodeKind.marks w f c.set-value.new.self c.requires.good a.kept a.room c.args.at ((get_or (listed f.register) c.args.at d).0, v) c.requires.inside (a.listed d) in
+    let t = written key g.N.NodeKind.marks w f c.set_value.new.self c.requires.good a.kept a.room c.args.at ((get_or (listed f.register) c.args.at d).0, v) c.requires.inside (a.listed d) in
     record {
       after = then f _ _ t c.enter.ensures.after;
       answer =

@@ -26,7 +26,7 @@ loop-row-smaller g c =
     let key = g.N.NodeKind.key in
     let s = c.loop-row.self in
     let t = c.turn.new.self in
-    let e = c.in-ok-turn.ensures in
+    let e = c.in_ok-turn.ensures in
     let P : ℕ → Type 0 = λ n. potential K n (state_of key w t) < potential K (capacity s) (state_of key w s) in
     subst P (sym e.after.room) (falls K M h (capacity s) g.met.C.CostKind.bound (state_of key w s) (state_of key w t) (ap (λ x. turned_of w (Ok x) (state_of key w t)) (sym c.in-More.is) ∙ e.answer))
 
@@ -39,7 +39,7 @@ loop-row-preserved g c =
     let key = g.N.NodeKind.key in
     let s = c.loop-row.self in
     let t = c.turn.new.self in
-    let e = c.in-ok-turn.ensures in
+    let e = c.in_ok-turn.ensures in
     let inv = c.loop-row.invariant in (
       then c.args.self.now s t inv.0 e.after,
       λ o x. inv.1 o (ends_later K M h (capacity s) (capacity t) (state_of key w s) (state_of key w t) o e.after.room (ap (λ x. turned_of w (Ok x) (state_of key w t)) (sym c.in-More.is) ∙ e.answer) x),
@@ -54,7 +54,7 @@ returns-in-Found g c =
     let key = g.N.NodeKind.key in
     let s = c.loop-row.self in
     let t = c.turn.new.self in
-    let e = c.in-ok-turn.ensures in
+    let e = c.in_ok-turn.ensures in
     let inv = c.loop-row.invariant in
     record {
       after = then c.args.self.now s t inv.0 e.after;
@@ -71,7 +71,7 @@ returns-in-Empty g c =
     let key = g.N.NodeKind.key in
     let s = c.loop-row.self in
     let t = c.turn.new.self in
-    let e = c.in-ok-turn.ensures in
+    let e = c.in_ok-turn.ensures in
     let inv = c.loop-row.invariant in
     record {
       after = then c.args.self.now s t inv.0 e.after;
@@ -79,8 +79,8 @@ returns-in-Empty g c =
       answer = inv.1 _ (ends_now K M h (capacity s) (state_of key w s) _ (ap (λ x. turned_of w (Ok x) (state_of key w t)) (sym c.in-Empty.is) ∙ e.answer));
     }
 
-pub returns-in-err-turn : goal.returns-in-err-turn
-returns-in-err-turn g c =
+pub returns-in_err-turn : goal.returns-in_err-turn
+returns-in_err-turn g c =
     let K = kind g.C.CostKind.fits g.C.CostKind.greatest in
     let M = meaning g.G.Graph.holds g.G.Graph.zones g.G.Graph.counts g.G.Graph.roads g.G.Graph.goals c.args.graph.now in
     let h = g.G.Graph.guesses c.args.graph.now in
@@ -88,10 +88,10 @@ returns-in-err-turn g c =
     let key = g.N.NodeKind.key in
     let s = c.loop-row.self in
     let t = c.turn.new.self in
-    let e = c.in-err-turn.ensures in
+    let e = c.in_err-turn.ensures in
     let inv = c.loop-row.invariant in
     let p = err_from_is_err_and c.from-residual.result c.from-residual.ensures.1 in
-    let q : end_of w c.from-residual.result (state_of key w t) ≡ stopped c.in-err-turn.field-0.0 = ap (λ y. end_of w y (state_of key w t)) p.1 ∙ ap stopped p.2 in
+    let q : end_of w c.from-residual.result (state_of key w t) ≡ stopped c.in_err-turn.field-0.0 = ap (λ y. end_of w y (state_of key w t)) p.1 ∙ ap stopped p.2 in
     record {
       after = then c.args.self.now s t inv.0 e.after;
       inside = subst (λ y. ended_in y (size t)) (sym p.1) tt;

@@ -29,8 +29,8 @@ keeps_none rs r n room e l h = let t : leb (length r) room ≡ true = le-leb _ _
 leaving : (n : Capacity) {rs rs' : List (List ℕ)} → rs ≡ rs' → ◌≡◌ {A = Held} (record { capacity = n; pending = rs }) (record { capacity = n; pending = rs' })
 leaving n e = ap (λ (x : List (List ℕ)). record { capacity = n; pending = x }) e
 
-pub returns-then-too-short : goal.returns-then-too-short
-returns-then-too-short g c =
+pub returns-then-too_short : goal.returns-then-too_short
+returns-then-too_short g c =
     let key = g.N.NodeKind.key in
     let w = g.C.CostKind.weight in
     let p = c.args.self.now in
@@ -38,15 +38,15 @@ returns-then-too-short g c =
     let rs = one (rows_of key w l) p.sink c.in-Some.row (length l) c.in-Some.is (sym (length-map l (row_of key w))) in
     record {
       call = record {
-        gives = gives_short _ _ _ _ rs c.depth-needed.ensures (ltb-true _ _ (sym c.too-short.ensures ∙ c.if-too-short.true));
-        leaves = leaving _ (keeps_short _ _ _ _ rs c.depth-needed.ensures (ltb-true _ _ (sym c.too-short.ensures ∙ c.if-too-short.true)));
+        gives = gives_short _ _ _ _ rs c.depth-needed.ensures (ltb-true _ _ (sym c.too_short.ensures ∙ c.if-too_short.true));
+        leaves = leaving _ (keeps_short _ _ _ _ rs c.depth-needed.ensures (ltb-true _ _ (sym c.too_short.ensures ∙ c.if-too_short.true)));
       };
       within = tt;
       rest = refl;
     }
 
-pub returns-else-too-short : goal.returns-else-too-short
-returns-else-too-short g c =
+pub returns-else-too_short : goal.returns-else-too_short
+returns-else-too_short g c =
     let key = g.N.NodeKind.key in
     let w = g.C.CostKind.weight in
     let p = c.args.self.now in
@@ -54,9 +54,9 @@ returns-else-too-short g c =
     let rs = one (rows_of key w l) p.sink c.in-Some.row (length l) c.in-Some.is (sym (length-map l (row_of key w))) in
     record {
       call = record {
-        gives = gives_whole _ _ _ _ _ rs c.depth-needed.ensures (ltb-false _ _ (sym c.too-short.ensures ∙ c.if-too-short.false)) c.write-back.ensures.keys;
-        leaves = leaving _ (keeps_none _ _ _ _ rs c.depth-needed.ensures (ltb-false _ _ (sym c.too-short.ensures ∙ c.if-too-short.false)));
+        gives = gives_whole _ _ _ _ _ rs c.depth-needed.ensures (ltb-false _ _ (sym c.too_short.ensures ∙ c.if-too_short.false)) c.write_back.ensures.keys;
+        leaves = leaving _ (keeps_none _ _ _ _ rs c.depth-needed.ensures (ltb-false _ _ (sym c.too_short.ensures ∙ c.if-too_short.false)));
       };
-      within = ltb-false _ _ (sym c.too-short.ensures ∙ c.if-too-short.false);
-      rest = c.write-back.ensures.rest;
+      within = ltb-false _ _ (sym c.too_short.ensures ∙ c.if-too_short.false);
+      rest = c.write_back.ensures.rest;
     }

@@ -13,8 +13,8 @@ new-register-requires g c = omega (arith, (sizes (length c.args.rows.now) (lengt
 pub new-heap-requires : goal.new-heap-requires
 new-heap-requires g c = let s = sizes (length c.args.rows.now) (length c.args.slots.now) (length c.args.links.now) c.requires in omega (arith, s.few, s.even)
 
-pub invariant-of-result : goal.invariant-of-result
-invariant-of-result g c =
+pub invariant_of-result : goal.invariant_of-result
+invariant_of-result g c =
     let s = sizes (length c.args.rows.now) (length c.args.slots.now) (length c.args.links.now) c.requires in
     let none : length (listed c.new-register.result) ≡ 0 = ap length c.new-register.ensures.empty in (
       omega (arith, s.some, c.new-register.ensures.room),

@@ -3,8 +3,8 @@ use Rattle.store.specs.declared.rows.Row.{Row}
 use Rattle.store.proofs.Buckets.{length_found, found_at}
 use Rattle.store.proofs.register.Register.value.Goals as goal
 
-pub value-at-requires : goal.value-at-requires
-value-at-requires g c =
+pub value_at-requires : goal.value_at-requires
+value_at-requires g c =
     omega (arith, length_found c.args.self.now.rows.now c.args.self.now.len c.requires.fits, c.requires.fits, c.requires.inside)
 
 pub returns : goal.returns
@@ -14,4 +14,4 @@ returns g c d =
     let e = length_found xs n c.requires.fits in
     let l : c.args.row < n = omega (arith, c.requires.inside) in
     let r : Row g.row.N.Denot g.row.V.Denot = record { node = d.0; value = d.1; next = 0; head = 0 } in
-    c.value-at.ensures r ∙ ap (λ (x : g.row.N.Denot × g.row.V.Denot). x.1) (sym (found_at xs n c.args.row r d c.requires.fits l))
+    c.value_at.ensures r ∙ ap (λ (x : g.row.N.Denot × g.row.V.Denot). x.1) (sym (found_at xs n c.args.row r d c.requires.fits l))
