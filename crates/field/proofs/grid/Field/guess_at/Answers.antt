@@ -9,8 +9,10 @@ few columns rows step c r s = mul-le (columns + rows) step 131070 1000 (omega ar
 
 pub overflow_mul-result : goal.overflow_mul-result
 overflow_mul-result c =
-    omega (arith, few c.abs_diff.result c.abs_diff-2.result c.args.self.now.layout.step c.abs_diff.type-inv c.abs_diff-2.type-inv (ranged c.args.self.now.layout c.args.self.now.range).step)
+    omega (arith, few c.abs_diff.result c.abs_diff-2.result c.args.self.now.layout.step c.abs_diff.type_inv c.abs_diff-2.type_inv (ranged c.args.self.now.layout c.args.self.now.range).step)
 
 pub invariant_of-result : goal.invariant_of-result
 invariant_of-result c =
-    (omega (arith, few c.abs_diff.result c.abs_diff-2.result c.args.self.now.layout.step c.abs_diff.type-inv c.abs_diff-2.type-inv (ranged c.args.self.now.layout c.args.self.now.range).step), tt)
+    record {
+      small = omega (arith, few c.abs_diff.result c.abs_diff-2.result c.args.self.now.layout.step c.abs_diff.type_inv c.abs_diff-2.type_inv (ranged c.args.self.now.layout c.args.self.now.range).step);
+    }

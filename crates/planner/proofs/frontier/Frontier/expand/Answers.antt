@@ -36,7 +36,7 @@ returns-in_err-relax g c =
     let inv = c.loop-rank.invariant in
     let e = c.in_err-relax.ensures in
     let n : c.road_count-count.result - c.loop-rank.rank ≡ (c.road_count-count.result - (c.loop-rank.rank + 1)) + 1 = omega arith in
-    let p = err_from_is_err_and c.from-residual.result c.from-residual.ensures.1 in
+    let p = err_from_is_err_and c.from_residual.result c.from_residual.ensures.1 in
     record {
       after = then c.args.self.now s c.relax.new.self inv.0 e.after;
       answer =

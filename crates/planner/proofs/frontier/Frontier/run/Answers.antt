@@ -90,8 +90,8 @@ returns-in_err-turn g c =
     let t = c.turn.new.self in
     let e = c.in_err-turn.ensures in
     let inv = c.loop-row.invariant in
-    let p = err_from_is_err_and c.from-residual.result c.from-residual.ensures.1 in
-    let q : end_of w c.from-residual.result (state_of key w t) ≡ stopped c.in_err-turn.field-0.0 = ap (λ y. end_of w y (state_of key w t)) p.1 ∙ ap stopped p.2 in
+    let p = err_from_is_err_and c.from_residual.result c.from_residual.ensures.1 in
+    let q : end_of w c.from_residual.result (state_of key w t) ≡ stopped c.in_err-turn.field-0.0 = ap (λ y. end_of w y (state_of key w t)) p.1 ∙ ap stopped p.2 in
     record {
       after = then c.args.self.now s t inv.0 e.after;
       inside = subst (λ y. ended_in y (size t)) (sym p.1) tt;

@@ -63,8 +63,8 @@ returns-then-goal g c =
           (sym c.goal.ensures ∙ c.if-goal.true));
     }
 
-pub returns-in_err-expand : goal.returns-in_err-expand
-returns-in_err-expand g c =
+pub returns-in_err-expand-in-Some : goal.returns-in_err-expand-in-Some
+returns-in_err-expand-in-Some g c =
     let K = kind g.C.CostKind.fits g.C.CostKind.greatest in
     let M = meaning g.G.Graph.holds g.G.Graph.zones g.G.Graph.counts g.G.Graph.roads g.G.Graph.goals c.args.graph.now in
     let h = g.G.Graph.guesses c.args.graph.now in
@@ -73,9 +73,9 @@ returns-in_err-expand g c =
     let f = c.args.self.now in
     let a = c.in-Some.ensures in
     let x = c.in-Some.first in
-    let e = c.in_err-expand.ensures in
+    let e = c.in_err-expand-in-Some.ensures in
     let l = below_first w (size f) _ x c.requires.waiting (sym a.first) in
-    let p = err_from_is_err_and c.from-residual.result c.from-residual.ensures.1 in
+    let p = err_from_is_err_and c.from_residual.result c.from_residual.ensures.1 in
     let t = popped key g.N.NodeKind.marks w f c.pop.new.self _ c.requires a.sound a.rows a.waits (below_without w (size f) x.0 (waits f.heap) c.requires.waiting) in
     record {
       after = then f _ _ t e.after;
@@ -90,8 +90,8 @@ returns-in_err-expand g c =
           e.answer;
     }
 
-pub returns-in_ok-expand : goal.returns-in_ok-expand
-returns-in_ok-expand g c =
+pub returns-in_ok-expand-in-Some : goal.returns-in_ok-expand-in-Some
+returns-in_ok-expand-in-Some g c =
     let K = kind g.C.CostKind.fits g.C.CostKind.greatest in
     let M = meaning g.G.Graph.holds g.G.Graph.zones g.G.Graph.counts g.G.Graph.roads g.G.Graph.goals c.args.graph.now in
     let h = g.G.Graph.guesses c.args.graph.now in
@@ -100,7 +100,7 @@ returns-in_ok-expand g c =
     let f = c.args.self.now in
     let a = c.in-Some.ensures in
     let x = c.in-Some.first in
-    let e = c.in_ok-expand.ensures in
+    let e = c.in_ok-expand-in-Some.ensures in
     let l = below_first w (size f) _ x c.requires.waiting (sym a.first) in
     let t = popped key g.N.NodeKind.marks w f c.pop.new.self _ c.requires a.sound a.rows a.waits (below_without w (size f) x.0 (waits f.heap) c.requires.waiting) in
     record {
