@@ -30,8 +30,7 @@ fn numbered(method: u32) -> Option<Method>
 // rows; runs it so many times, and once where that is 0. The last answer is told, with the stations of its route in the
 // first entries of `out`; what the other entries hold is open. The chart is checked, and the memory of the planner
 // allocated and cleared, once for all of them.
-#[unsafe(no_mangle)]
-pub extern "C" fn capi_seek(
+pub fn capi_seek(
     heap: Global,
     method: u32,
     bytes: &[u8],

@@ -1,6 +1,6 @@
 -- Looking for the first number that breaks a rule, one number after the other: `GoesOn` says that it is the same from
 -- here on as from the beginning.
-use Rattle.std.proofs.Common.{◌≡◌, ℕ, suc, ◌+◌, ◌-◌, ◌<◌, ◌≤◌, Bool, true, false, Some, None, Option, sym, refl, ap, ◌∙◌, arith}
+use Rattle.std.proofs.Common.{◌≡◌, ℕ, suc, ◌+◌, ◌-◌, ◌<◌, ◌≤◌, Bool, true, false, Some, None, sym, ap, ◌∙◌, arith}
 use Rattle.chart.specs.Checked.{first_breaking}
 
 abbrev pub GoesOn : (ℕ → Bool) → (count here : ℕ) → Type 0

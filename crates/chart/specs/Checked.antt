@@ -1,5 +1,5 @@
 -- What checking the bytes of a chart answers, for every string of bytes.
-use Rattle.std.specs.Prelude.{ℕ, zero, suc, ◌+◌, Bool, true, false, cond, List, Some, None, Ok, Err, Option, Result}
+use Rattle.std.specs.Prelude.{ℕ, zero, suc, ◌+◌, Bool, cond, List, Some, None, Ok, Err, Option, Result}
 use Rattle.chart.specs.declared.refusal.ChartRefusal.{ChartRefusal}
 use Rattle.chart.specs.declared.refusal.ChartRefusal.TheVariants.{Header, Station, Road}
 use Rattle.chart.specs.Format.{station_count, road_count}

@@ -1,11 +1,10 @@
 -- The guess of a field is true: every step changes one of the two distances by one.
-use Rattle.std.proofs.Common.{◌≡◌, ℕ, ◌+◌, ◌*◌, ◌<◌, ◌≤◌, Bool, true, false, cond, List, Ok, sym, refl, ap, ◌∙◌, subst, le_refl, add-mul, one-mul, zero-mul, arith}
+use Rattle.std.proofs.Common.{◌≡◌, ℕ, ◌+◌, ◌*◌, ◌<◌, ◌≤◌, Bool, true, false, cond, List, Ok, sym, refl, ◌∙◌, subst, le_refl, add-mul, one-mul, zero-mul, arith}
 use Rattle.std.proofs.lemmas.Bool.{and_parts, eqb-true, both_ways}
 use Rattle.std.proofs.lemmas.Nat.{mul-le}
-use Rattle.graph.specs.Meaning.{opened, closed}
-use Rattle.graph.specs.Routes.{Step, Weighs, ends, goes, True}
+use Rattle.graph.specs.Routes.{Weighs, ends, goes, True}
 use Rattle.field.specs.declared.layout.Layout.{Layout}
-use Rattle.field.specs.Cells.{held_at, road_at, target_at, distance, guess_at}
+use Rattle.field.specs.Cells.{target_at, distance, guess_at}
 use Rattle.field.specs.Means.{column_of, row_of, field_held, field_meaning, field_guess}
 use Rattle.field.specs.Checking.{verdict}
 use Rattle.field.specs.Laws.{Neighbour, neighbour, held_column, column_of_key, row_of_key, few_columns}

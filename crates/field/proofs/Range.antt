@@ -1,5 +1,5 @@
 -- What a layout in range says.
-use Rattle.std.proofs.Common.{◌≡◌, ℕ, ◌<◌, ◌≤◌, true}
+use Rattle.std.proofs.Common.{◌≡◌, ◌<◌, ◌≤◌, true}
 use Rattle.std.proofs.lemmas.Bool.{and_parts, leb-true, ltb-true}
 use Rattle.field.specs.declared.layout.Layout.{Layout}
 use Rattle.field.specs.Checking.{in_range}

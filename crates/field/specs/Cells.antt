@@ -1,5 +1,5 @@
 -- What a field says of each cell, by column and row.
-use Rattle.std.specs.Prelude.{ℕ, ◌+◌, ◌-◌, ◌*◌, Bool, false, cond, not, ◌&&◌, List, ◌==◌, nat_lt, slice_index}
+use Rattle.std.specs.Prelude.{ℕ, ◌+◌, ◌-◌, ◌*◌, Bool, cond, not, ◌&&◌, List, ◌==◌, nat_lt, slice_index}
 use Rattle.kinds.specs.Cell.{cell_key}
 use Rattle.graph.specs.Meaning.{Road, opened, closed}
 use Rattle.field.specs.declared.layout.Layout.{Layout}

@@ -1,6 +1,6 @@
 -- The routes past a fence, and what the routes past a toll weigh.
-use Rattle.std.proofs.Common.{◌≡◌, ℕ, ◌+◌, ◌<◌, ◌≤◌, Bool, true, false, cond, List, [], ◌∷◌, sym, refl, ◌∙◌, subst, ⊎_elim, arith}
-use Rattle.std.proofs.lemmas.Bool.{cases_lt, both_ways}
+use Rattle.std.proofs.Common.{◌≡◌, ℕ, ◌≤◌, Bool, true, false, cond, List, [], ◌∷◌, sym, refl, ◌∙◌, subst, arith}
+use Rattle.std.proofs.lemmas.Bool.{both_ways}
 use Rattle.kinds.specs.Kind.{Kind}
 use Rattle.graph.specs.Meaning.{opened, Meaning}
 use Rattle.graph.specs.Routes.{Step, Weighs, ends, goes}

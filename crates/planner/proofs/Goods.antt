@@ -1,5 +1,5 @@
 -- What a write of the register keeps.
-use Rattle.std.proofs.Common.{◌≡◌, ℕ, suc, ◌+◌, ◌<◌, ◌≤◌, List, [], ◌∷◌, ◌++◌, length, set, sym, refl, ap, ◌∙◌, subst, arith, length-append, length-set}
+use Rattle.std.proofs.Common.{◌≡◌, ℕ, ◌+◌, ◌<◌, ◌≤◌, List, [], ◌∷◌, ◌++◌, length, set, sym, refl, ap, ◌∙◌, subst, arith, length-append, length-set}
 use Rattle.store.specs.declared.register.Register.{Register}
 use Rattle.store.specs.declared.heap.Heap.{Heap}
 use Rattle.store.specs.Queue.{Waiting}
@@ -7,7 +7,7 @@ use Rattle.store.specs.Registers.{listed, room, Kept}
 use Rattle.store.specs.Heaps.{rows, waits, Sound}
 use Rattle.planner.specs.declared.frontier.Reached.{Reached}
 use Rattle.planner.specs.declared.frontier.Frontier.{Frontier}
-use Rattle.planner.specs.Views.{size, capacity}
+use Rattle.planner.specs.Views.{size}
 use Rattle.planner.specs.Good.{Below, Parents, Good, After}
 use Rattle.planner.proofs.Maps.{below_more, parents_more, parents_push, parents_set}
 

@@ -1,13 +1,12 @@
 -- The planner's lists and the definition's: each operation of the one is that of the other.
-use Rattle.std.proofs.Common.{◌≡◌, ℕ, zero, suc, ◌+◌, ◌<◌, ◌≤◌, Bool, true, false, cond, eqb, ltb, List, [], ◌∷◌, ◌++◌, map, length, get_or, set, Some, None, Option, sym, refl, ap, ◌∙◌, subst, arith}
-use Rattle.std.proofs.lemmas.Bool.{eqb-true, cases_Bool, cond-true, cond-false}
-use Rattle.std.proofs.lemmas.List.{length-map, map-append}
+use Rattle.std.proofs.Common.{◌≡◌, ℕ, zero, suc, ◌+◌, ◌<◌, ◌≤◌, Bool, true, false, cond, eqb, List, [], ◌∷◌, ◌++◌, map, length, get_or, set, Some, None, Option, sym, refl, ap, ◌∙◌, subst, arith}
+use Rattle.std.proofs.lemmas.Bool.{eqb-true}
 use Rattle.store.specs.Rows.{number_of, later as later₀}
 use Rattle.store.specs.Queue.{Waiting, without as without₀, first_out as firstOut₀, sooner as sooner₀, overtakes as overtakes₀}
-use Rattle.search.specs.Rows.{Row, no_row, find, later}
-use Rattle.search.specs.Queue.{Entry, without, first_out, sooner, overtakes}
+use Rattle.search.specs.Rows.{find, later}
+use Rattle.search.specs.Queue.{without, first_out, sooner}
 use Rattle.planner.specs.declared.frontier.Reached.{Reached}
-use Rattle.planner.specs.Views.{row_of, rows_of, entry_of, entries_of}
+use Rattle.planner.specs.Views.{rows_of, entry_of, entries_of}
 use Rattle.planner.specs.Good.{Below, Parents}
 
 pub never : (Z : Type 0) → ◌≡◌ {A = ℕ} 0 1 → Z

@@ -1,11 +1,11 @@
 -- How each step of relaxing a road meets its clause of the definition.
-use Rattle.std.proofs.Common.{◌≡◌, ℕ, zero, suc, ◌+◌, ◌<◌, ◌≤◌, Bool, true, false, cond, eqb, ltb, List, [], ◌∷◌, ◌++◌, map, length, get_or, set, Some, None, Option, sym, refl, ap, ◌∙◌, subst, arith}
+use Rattle.std.proofs.Common.{◌≡◌, ℕ, ◌+◌, ◌≤◌, Bool, true, false, cond, ltb, List, [], ◌∷◌, ◌++◌, length, get_or, set, Some, None, Option, sym, refl, ap, ◌∙◌, arith}
 use Rattle.kinds.specs.Kind.{Kind}
 use Rattle.graph.specs.Meaning.{Meaning}
-use Rattle.search.specs.declared.refusal.SeekRefusal.TheVariants.{NoSum, NoRow, FaultyRoad}
+use Rattle.search.specs.declared.refusal.SeekRefusal.TheVariants.{NoSum, NoRow}
 use Rattle.search.specs.Rows.{Row, no_row, find}
 use Rattle.search.specs.Queue.{Entry, without}
-use Rattle.search.specs.Machine.{State, Result, fine, refused, pushed, fresh, known, arrive, summed, relax}
+use Rattle.search.specs.Machine.{State, Result, fine, refused, pushed, fresh, known, arrive, summed}
 use Rattle.store.specs.Registers.{listed, room, Kept}
 use Rattle.store.proofs.Buckets.{length_found}
 use Rattle.store.specs.declared.register.Register.{Register}

@@ -1,12 +1,12 @@
 -- The roads of a row, and a turn, against the definition.
-use Rattle.std.proofs.Common.{◌≡◌, ℕ, zero, suc, ◌+◌, ◌-◌, ◌<◌, ◌≤◌, Bool, true, false, cond, List, [], ◌∷◌, ◌++◌, map, length, get_or, Some, None, Option, sym, refl, ap, ◌∙◌, subst, arith}
+use Rattle.std.proofs.Common.{◌≡◌, ℕ, zero, suc, ◌+◌, ◌<◌, Bool, true, false, List, length, get_or, Some, None, Option, sym, refl, ap, ◌∙◌, arith}
 use Rattle.kinds.specs.Kind.{Kind}
 use Rattle.graph.specs.Meaning.{Meaning}
 use Rattle.search.specs.declared.refusal.SeekRefusal.{SeekRefusal}
-use Rattle.search.specs.Rows.{Row, no_row, walk}
+use Rattle.search.specs.Rows.{Row, no_row}
 use Rattle.search.specs.Queue.{Entry, without}
-use Rattle.search.specs.Machine.{State, Result, fine, refused, relax, onward, along, turned, taken, turn, Turned, more, done}
-use Rattle.search.specs.Outcome.{Outcome, stopped, none, found}
+use Rattle.search.specs.Machine.{State, Result, fine, refused, relax, onward, along, turned, taken, turn, done}
+use Rattle.search.specs.Outcome.{none, found}
 use Rattle.planner.specs.declared.frontier.Reached.{Reached}
 use Rattle.planner.specs.Views.{row_of, rows_of, route_to}
 use Rattle.planner.proofs.Maps.{never, get_d_map, some_of}

@@ -1,5 +1,5 @@
 -- What a planner holds between two calls, and what a seek answered.
-use Rattle.std.specs.Prelude.{ℕ, List, [], ◌∷◌, Some, None, Ok, Err, Option, Result}
+use Rattle.std.specs.Prelude.{ℕ, List, [], Some, None, Ok, Err, Option, Result}
 use Rattle.store.specs.Registers.{listed}
 use Rattle.store.specs.Links.{link_room}
 use Rattle.search.specs.declared.refusal.SeekRefusal.{SeekRefusal}

@@ -1,5 +1,5 @@
 -- The searches: which outcome each comes to, by the method, the costs, the graph, the rows and the start.
-use Rattle.std.specs.Prelude.{ℕ, Bool}
+use Rattle.std.specs.Prelude.{ℕ}
 use Rattle.kinds.specs.Kind.{Kind}
 use Rattle.graph.specs.Meaning.{Meaning}
 use Rattle.search.specs.Outcome.{Outcome}

@@ -1,5 +1,5 @@
 -- The rows of a search: the keys that it has found, numbered from 0 in the order of finding.
-use Rattle.std.specs.Prelude.{ℕ, zero, suc, ◌+◌, Bool, cond, List, [], ◌∷◌, Some, None, Option, ◌==◌, slice_index_or}
+use Rattle.std.specs.Prelude.{ℕ, zero, suc, ◌+◌, cond, List, [], ◌∷◌, Some, None, Option, ◌==◌, slice_index_or}
 
 -- a key, the least cost that it was reached at, and the row that it was then reached from
 pub record Row : Type 0 where

@@ -1,14 +1,14 @@
 -- What the passes of a deal do, and what the whole keeps.
-use Rattle.std.proofs.Common.{◌≡◌, ℕ, zero, suc, ◌+◌, ◌*◌, ◌<◌, ◌≤◌, Bool, true, false, cond, ltb, ◌⊎◌, List, [], ◌∷◌, ◌++◌, map, length, get_or, take, set, sym, refl, ap, ◌∙◌, subst, inl, inr, ⊎_elim, arith}
+use Rattle.std.proofs.Common.{◌≡◌, ℕ, zero, suc, ◌+◌, ◌<◌, ◌≤◌, cond, ltb, List, [], ◌∷◌, map, length, get_or, set, sym, refl, ap, ◌∙◌, subst, ⊎_elim, arith}
 use Rattle.std.proofs.lemmas.List.{get_or-set_same, get_or-set_other, get_or_default, length-set}
 use Rattle.std.proofs.lemmas.Bool.{cases_eq, cases_lt}
 use Rattle.store.specs.declared.slots.Entry.{Entry}
 use Rattle.store.specs.declared.slots.Slot.{Slot}
 use Rattle.store.specs.Slots.{at, Ahead, Placed, Apart, Counted, Heaped}
-use Rattle.store.specs.Queue.{waiting, by_push, entry_of, entries, queue}
+use Rattle.store.specs.Queue.{waiting, by_push, entries, queue}
 use Rattle.store.specs.Deal.{dealt, below, labelled, Numbered, Relabelled}
 use Rattle.store.proofs.Seats.{same_field}
-use Rattle.store.proofs.Queues.{Mem, mem_at}
+use Rattle.store.proofs.Queues.{mem_at}
 use Rattle.store.proofs.Deals.{below_le, below_lt, below_fits, keeps_below, by_push_dealt, waiting_dealt, ahead_dealt}
 
 module _ {C : Type 0} where

@@ -1,5 +1,5 @@
 -- A heap with no entry.
-use Rattle.std.proofs.Common.{◌≡◌, ℕ, ◌<◌, ◌≤◌, List, [], sym, refl, ap, ◌∙◌, subst, arith}
+use Rattle.std.proofs.Common.{◌≡◌, ℕ, ◌≤◌, [], ap, ◌∙◌, arith}
 use Rattle.store.specs.declared.heap.Heap.{Heap}
 use Rattle.store.specs.Queue.{queue}
 use Rattle.store.specs.Heaps.{rows, waits, Sound}

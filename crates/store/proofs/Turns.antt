@@ -1,13 +1,13 @@
 -- A push and a pop of the slots are a push and a pop of the list.
-use Rattle.std.proofs.Common.{◌≡◌, ℕ, zero, suc, ◌+◌, ◌-◌, ◌*◌, ◌/◌, ◌<◌, ◌≤◌, Bool, true, false, cond, eqb, ltb, ◌⊎◌, List, [], ◌∷◌, ◌++◌, map, length, get_or, take, Some, None, Option, sym, refl, ap, ◌∙◌, subst, inl, inr, ⊎_elim, arith}
+use Rattle.std.proofs.Common.{◌≡◌, ℕ, zero, suc, ◌+◌, ◌<◌, ◌≤◌, true, false, cond, eqb, ltb, ◌⊎◌, List, [], ◌∷◌, ◌++◌, map, length, get_or, Some, None, sym, refl, ap, ◌∙◌, subst, inl, inr, ⊎_elim, arith}
 use Rattle.std.proofs.lemmas.List.{map-append, get_or_default}
-use Rattle.std.proofs.lemmas.Bool.{cases_eq, cases_Bool, ltb-true, ltb-false, eqb-true, eqb-false, cond-true, cond-false, lt-ltb, le-ltb, eq-eqb, ne_eqb}
+use Rattle.std.proofs.lemmas.Bool.{cases_eq, cases_Bool, eqb-true, eqb-false, cond-true, cond-false, lt-ltb, le-ltb, eq-eqb, ne_eqb}
 use Rattle.store.specs.declared.slots.Entry.{Entry}
 use Rattle.store.specs.declared.slots.Slot.{Slot}
-use Rattle.store.specs.Slots.{at, Ahead, In, Apart, Placed, Counted, Same, Seated, Order, Loose, Heaped}
+use Rattle.store.specs.Slots.{at, Ahead, In, Apart, Placed, Counted, Same, Seated, Heaped}
 use Rattle.store.proofs.Sifts.{ahead_trans, ahead_refl, order_top}
-use Rattle.store.specs.Queue.{Waiting, waiting, among, by_push, entry_of, entries, queue, without, pushed, overtakes, sooner, first_out}
-use Rattle.store.proofs.Queues.{Mem, Climb, Diff, by_test, mem_by_push_to, mem_by_push_from, climb_by_push, climb_unique, mem_at, in_from_mem, mem_from_in, diff_from_apart}
+use Rattle.store.specs.Queue.{waiting, by_push, entries, queue, without, pushed, overtakes, sooner, first_out}
+use Rattle.store.proofs.Queues.{Mem, Climb, by_test, mem_by_push_to, mem_by_push_from, climb_by_push, climb_unique, in_from_mem, mem_from_in, diff_from_apart}
 
 -- what a push leaves among the members
 abbrev pub Added : {C : Type 0} → List (Slot C) → ℕ → List (Slot C) → ℕ → Entry C → Type 0

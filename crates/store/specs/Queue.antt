@@ -1,5 +1,5 @@
 -- What waits in a heap, as a list in the order of the pushes.
-use Rattle.std.specs.Prelude.{◌≡◌, ℕ, ◌<◌, ◌≤◌, Bool, true, false, cond, List, [], ◌∷◌, ◌++◌, map, take, Some, None, Option, ◌==◌, nat_lt}
+use Rattle.std.specs.Prelude.{ℕ, Bool, true, false, cond, List, [], ◌∷◌, ◌++◌, map, take, Some, None, Option, ◌==◌, nat_lt}
 use Rattle.store.specs.declared.slots.Entry.{Entry}
 use Rattle.store.specs.declared.slots.Slot.{Slot}
 

@@ -1,5 +1,5 @@
 -- What a register holds, and what each of its calls keeps.
-use Rattle.std.specs.Prelude.{◌≡◌, ℕ, ◌<◌, ◌≤◌, List, length, get_or, set}
+use Rattle.std.specs.Prelude.{ℕ, ◌≤◌, List, length}
 use Rattle.store.specs.declared.register.Register.{Register}
 use Rattle.store.specs.Rows.{Linked, Single, found}
 

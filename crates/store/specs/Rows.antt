@@ -1,5 +1,5 @@
 -- Rows of a register: their hash chains, and what they know as a list.
-use Rattle.std.specs.Prelude.{◌≡◌, ℕ, ◌+◌, ◌%◌, ◌<◌, ◌≤◌, Bool, true, false, cond, List, [], ◌∷◌, ◌++◌, map, length, get_or, take, Some, None, Option, ◌==◌, slice_index_or, slice_set}
+use Rattle.std.specs.Prelude.{◌≡◌, ℕ, ◌+◌, ◌%◌, ◌<◌, ◌≤◌, cond, List, [], ◌∷◌, map, length, get_or, take, Some, None, Option, ◌==◌, slice_index_or, slice_set}
 use Rattle.store.specs.declared.rows.Row.{Row}
 
 -- the bucket of the node in row k

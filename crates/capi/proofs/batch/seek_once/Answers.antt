@@ -1,6 +1,5 @@
-use Rattle.std.proofs.Common.{◌≡◌, ℕ, ◌≤◌, length, Some, None, Ok, Err, Option, Result, sym, refl, ap, ◌∙◌, subst, arith}
+use Rattle.std.proofs.Common.{ℕ, length, Ok, Option, Result, ap, ◌∙◌, subst, arith}
 use Rattle.kinds.specs.declared.trims.Trims.{Trims}
-use Rattle.search.specs.declared.refusal.SeekRefusal.{SeekRefusal}
 use Rattle.search.specs.declared.refusal.HandOutRefusal.{HandOutRefusal}
 use Rattle.search.specs.Calls.{Held}
 use Rattle.planner.specs.Pending.{answer_of}

@@ -1,4 +1,4 @@
-use Rattle.std.proofs.Common.{◌≡◌, ℕ, ◌%◌, ◌<◌, ◌≤◌, length, get_or, sym, refl, ap, mod-lt, arith}
+use Rattle.std.proofs.Common.{◌≡◌, ℕ, ◌%◌, ◌<◌, length, get_or, sym, refl, ap, mod-lt, arith}
 use Rattle.std.proofs.lemmas.List.{get_or_default}
 use Rattle.store.specs.declared.rows.Row.{Row}
 use Rattle.store.proofs.Buckets.{grown, linked_grown, single_grown, found_grown}

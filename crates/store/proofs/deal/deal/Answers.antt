@@ -1,4 +1,4 @@
-use Rattle.std.proofs.Common.{sym, refl, ap, ◌∙◌, arith}
+use Rattle.std.proofs.Common.{arith}
 use Rattle.store.proofs.Dealing.{dealt_placed, dealt_apart, dealt_counted, dealt_heaped, dealt_queue}
 use Rattle.store.proofs.deal.deal.Goals as goal
 

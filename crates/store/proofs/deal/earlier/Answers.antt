@@ -1,7 +1,6 @@
-use Rattle.std.proofs.Common.{◌≡◌, ℕ, ◌+◌, ◌<◌, ◌≤◌, true, false, cond, ltb, length, sym, refl, ap, ◌∙◌, subst, arith}
+use Rattle.std.proofs.Common.{◌≡◌, ℕ, ◌<◌, ltb, length, ap, arith}
 use Rattle.std.proofs.lemmas.Bool.{lt-ltb, le-ltb, cond-true, cond-false}
 use Rattle.store.specs.declared.slots.Entry.{Entry}
-use Rattle.store.specs.declared.slots.Slot.{Slot}
 use Rattle.store.specs.Slots.{at}
 use Rattle.store.proofs.Dealing.{below_more, some_slot}
 use Rattle.store.proofs.deal.earlier.Goals as goal

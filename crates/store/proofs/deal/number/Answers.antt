@@ -1,6 +1,5 @@
-use Rattle.std.proofs.Common.{◌≡◌, ℕ, ◌+◌, ◌<◌, ◌≤◌, List, length, get_or, set, sym, refl, ap, ◌∙◌, subst, arith}
+use Rattle.std.proofs.Common.{◌+◌, List, get_or, sym, refl, ap, ◌∙◌, subst, arith}
 use Rattle.store.specs.declared.slots.Slot.{Slot}
-use Rattle.store.specs.Slots.{at}
 use Rattle.store.specs.Queue.{entries}
 use Rattle.store.specs.Deal.{below, noted, Numbered}
 use Rattle.store.proofs.Dealing.{numbered_more}

@@ -1,4 +1,4 @@
-use Rattle.std.proofs.Common.{ℕ, ◌+◌, ◌<◌, ◌≤◌, List, [], ◌∷◌, length, get_or, sym, refl, ap, ◌∙◌, subst, arith}
+use Rattle.std.proofs.Common.{◌+◌, ◌<◌, List, length, get_or, sym, refl, subst, arith}
 use Rattle.store.specs.declared.slots.Slot.{Slot}
 use Rattle.store.specs.Deal.{renamed, Relabelled}
 use Rattle.store.proofs.Dealing.{relabelled_more, some_slot}

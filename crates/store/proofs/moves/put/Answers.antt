@@ -1,4 +1,4 @@
-use Rattle.std.proofs.Common.{◌≡◌, ℕ, ◌+◌, ◌<◌, ◌≤◌, length, sym, refl, ap, arith}
+use Rattle.std.proofs.Common.{◌≡◌, ◌+◌, ◌≤◌, length, arith}
 use Rattle.store.specs.declared.slots.Slot.{Slot}
 use Rattle.store.specs.Slots.{Ahead, at}
 use Rattle.store.proofs.Sifts.{loose_kept, loose_in, loose_new, ahead_trans}

@@ -1,7 +1,7 @@
-use Rattle.std.proofs.Common.{◌≡◌, ℕ, ◌+◌, ◌-◌, ◌<◌, ◌≤◌, length, sym, refl, ap, subst, arith}
+use Rattle.std.proofs.Common.{◌≡◌, ℕ, ◌+◌, ◌-◌, ◌<◌, ◌≤◌, length, ap, arith}
 use Rattle.store.specs.declared.slots.Entry.{Entry}
 use Rattle.store.specs.declared.slots.Slot.{Slot}
-use Rattle.store.specs.Slots.{Ahead, at, Placed, Heaped}
+use Rattle.store.specs.Slots.{Ahead, at}
 use Rattle.store.proofs.Sifts.{loose_kept, loose_top, ahead_trans}
 use Rattle.store.proofs.Turns.{seat_top_of, gone_one_of, gone_same, popped, top_first}
 use Rattle.store.proofs.moves.take_first.Goals as goal

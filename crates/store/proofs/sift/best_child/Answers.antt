@@ -1,4 +1,4 @@
-use Rattle.std.proofs.Common.{ℕ, ◌+◌, ◌*◌, ◌<◌, ◌≤◌, arith}
+use Rattle.std.proofs.Common.{◌+◌, ◌*◌, arith}
 use Rattle.store.specs.Slots.{Ahead, at}
 use Rattle.store.proofs.Sifts.{kids, ahead_refl}
 use Rattle.store.proofs.sift.best_child.Goals as goal

@@ -1,4 +1,4 @@
-use Rattle.std.proofs.Common.{◌≡◌, get_or, refl, ap}
+use Rattle.std.proofs.Common.{◌≡◌, ap}
 use Rattle.std.proofs.lemmas.List.{get_or_default}
 use Rattle.store.specs.declared.slots.Slot.{Slot}
 use Rattle.store.specs.Slots.{at}

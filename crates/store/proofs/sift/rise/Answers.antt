@@ -1,4 +1,4 @@
-use Rattle.std.proofs.Common.{ℕ, ◌+◌, ◌-◌, ◌*◌, ◌/◌, ◌<◌, ◌≤◌, arith}
+use Rattle.std.proofs.Common.{ℕ, ◌-◌, ◌/◌, ◌<◌, arith}
 use Rattle.store.specs.Slots.{Ahead, at}
 use Rattle.store.proofs.Seats.{same_trans, exchanged_same}
 use Rattle.store.proofs.Sifts.{loose_up, under_at, ahead_trans, crossed_at}

@@ -1,4 +1,4 @@
-use Rattle.std.proofs.Common.{ℕ, ◌+◌, ◌-◌, ◌*◌, ◌/◌, ◌<◌, ◌≤◌, arith}
+use Rattle.std.proofs.Common.{◌+◌, ◌*◌, ◌<◌, ◌≤◌, arith}
 use Rattle.store.specs.Slots.{Ahead, at}
 use Rattle.store.proofs.Seats.{same_trans, exchanged_same}
 use Rattle.store.proofs.Sifts.{loose_down, order_done, under_down, ahead_trans, crossed_at}

@@ -1,5 +1,5 @@
 -- The column and the row of the node's key are the node's.
-use Rattle.std.proofs.Common.{◌≡◌, ◌<◌, sym, ◌∙◌, arith}
+use Rattle.std.proofs.Common.{◌<◌, sym, ◌∙◌, arith}
 use Rattle.field.specs.Laws.{column_of_key, row_of_key}
 use Rattle.field.proofs.grid.FieldGraph.road.Goals as goal
 

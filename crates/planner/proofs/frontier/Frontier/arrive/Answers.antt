@@ -1,19 +1,10 @@
-use Rattle.std.proofs.Common.{◌≡◌, ℕ, ◌+◌, ◌<◌, ◌≤◌, Bool, true, false, cond, ltb, List, [], ◌∷◌, ◌++◌, length, get_or, set, Some, None, sym, refl, ap, ◌∙◌, subst, arith, length-append, length-set}
-use Rattle.std.proofs.lemmas.List.{map-append, length-map}
-use Rattle.kinds.specs.Kind.{Kind, kind}
-use Rattle.graph.specs.Meaning.{Meaning, meaning}
-use Rattle.store.specs.Heaps.{waits}
+use Rattle.std.proofs.Common.{sym, ◌∙◌}
+use Rattle.std.proofs.lemmas.List.{length-map}
+use Rattle.kinds.specs.Kind.{kind}
+use Rattle.graph.specs.Meaning.{meaning}
 use Rattle.store.specs.Registers.{listed}
-use Rattle.store.specs.Rows.{number_of}
-use Rattle.search.specs.Rows.{Row, no_row}
-use Rattle.search.specs.Queue.{Entry}
-use Rattle.search.specs.Machine.{State, Result}
-use Rattle.planner.specs.declared.frontier.Reached.{Reached}
-use Rattle.planner.specs.declared.frontier.Frontier.{Frontier}
-use Rattle.planner.specs.Views.{size, capacity, row_of, rows_of, entries_of, entry_of, state_of}
-use Rattle.planner.specs.Good.{Below, Good, After}
-use Rattle.planner.proofs.Goods.{same, added, written, then}
-use Rattle.planner.proofs.Maps.{find_rows, number_in, set_map, get_d_map, some_of}
+use Rattle.planner.specs.Views.{size, capacity, row_of, state_of}
+use Rattle.planner.proofs.Maps.{find_rows}
 use Rattle.planner.proofs.Relaxes.{arrives_new, arrives_known}
 use Rattle.planner.proofs.frontier.Frontier.arrive.Goals as goal
 

@@ -1,16 +1,5 @@
-use Rattle.std.proofs.Common.{◌≡◌, ℕ, ◌+◌, ◌<◌, ◌≤◌, Bool, true, false, cond, ltb, List, [], ◌∷◌, ◌++◌, length, sym, refl, ap, ◌∙◌, subst, arith}
+use Rattle.std.proofs.Common.{◌≡◌, ℕ, ◌<◌, true, cond, ltb, List, [], ◌∷◌, ◌++◌, length, ap, ◌∙◌, arith}
 use Rattle.std.proofs.lemmas.Bool.{lt-ltb, cond-true}
-use Rattle.store.specs.Registers.{listed, room}
-use Rattle.store.specs.Rows.{number_of}
-use Rattle.store.specs.Heaps.{waits}
-use Rattle.store.specs.Queue.{Waiting, pushed}
-use Rattle.search.specs.Rows.{Row}
-use Rattle.search.specs.Queue.{Entry}
-use Rattle.search.specs.Machine.{State}
-use Rattle.planner.specs.declared.frontier.Reached.{Reached}
-use Rattle.planner.specs.Views.{size, capacity, rows_of, entries_of}
-use Rattle.planner.specs.Good.{Below, Parents}
-use Rattle.planner.proofs.Goods.{listed_as, popped}
 use Rattle.planner.proofs.frontier.Frontier.begin.Goals as goal
 
 -- the first row of an empty list

@@ -1,10 +1,10 @@
-use Rattle.std.proofs.Common.{◌≡◌, ℕ, ◌+◌, ◌-◌, ◌<◌, ◌≤◌, [], length, get_or, sym, refl, ap, ◌∙◌, subst, arith}
+use Rattle.std.proofs.Common.{◌≡◌, ℕ, ◌+◌, ◌-◌, [], length, get_or, sym, ap, ◌∙◌, arith}
 use Rattle.store.specs.Registers.{listed}
 use Rattle.search.specs.Rows.{Row, no_row, walk}
 use Rattle.planner.specs.declared.frontier.Reached.{Reached}
-use Rattle.planner.specs.Views.{size, row_of, rows_of}
+use Rattle.planner.specs.Views.{row_of, rows_of}
 use Rattle.planner.proofs.Maps.{some_of, get_d_map}
-use Rattle.planner.proofs.Tracing.{steps, length_walk, steps_more, steps_root, steps_last}
+use Rattle.planner.proofs.Tracing.{length_walk, steps_more, steps_root, steps_last}
 use Rattle.planner.proofs.frontier.Frontier.depth.Goals as goal
 
 pub loop-i-preserved : goal.loop-i-preserved

@@ -1,9 +1,9 @@
-use Rattle.std.proofs.Common.{◌≡◌, ℕ, ◌+◌, ◌-◌, ◌<◌, ◌≤◌, sym, refl, ap, ◌∙◌, subst, arith}
+use Rattle.std.proofs.Common.{◌≡◌, ℕ, ◌+◌, ◌-◌, sym, ap, ◌∙◌, arith}
 use Rattle.graph.specs.Meaning.{meaning}
 use Rattle.std.proofs.lemmas.Result.{err_from_is_err_and}
-use Rattle.kinds.specs.Kind.{Kind, kind}
-use Rattle.search.specs.Machine.{State, Result, refused, along}
-use Rattle.planner.specs.Views.{size, capacity, state_of, result_of}
+use Rattle.kinds.specs.Kind.{kind}
+use Rattle.search.specs.Machine.{refused, along}
+use Rattle.planner.specs.Views.{capacity, state_of, result_of}
 use Rattle.planner.proofs.Goods.{then}
 use Rattle.planner.proofs.Turning.{along_end, along_next, along_stop}
 use Rattle.planner.proofs.frontier.Frontier.expand.Goals as goal

@@ -1,19 +1,12 @@
-use Rattle.std.proofs.Common.{◌≡◌, ℕ, ◌+◌, ◌<◌, ◌≤◌, Bool, true, false, cond, ltb, List, [], ◌∷◌, ◌++◌, length, get_or, set, Some, None, sym, refl, ap, ◌∙◌, subst, arith, length-append, length-set}
+use Rattle.std.proofs.Common.{[], ◌∷◌, length, sym, ap, ◌∙◌, arith, length-append}
 use Rattle.std.proofs.lemmas.List.{map-append, length-map}
-use Rattle.kinds.specs.Kind.{Kind, kind}
-use Rattle.graph.specs.Meaning.{Meaning, meaning}
+use Rattle.kinds.specs.Kind.{kind}
+use Rattle.graph.specs.Meaning.{meaning}
 use Rattle.store.specs.Heaps.{waits}
 use Rattle.store.specs.Registers.{listed}
-use Rattle.store.specs.Rows.{number_of}
-use Rattle.search.specs.Rows.{Row, no_row}
-use Rattle.search.specs.Queue.{Entry}
-use Rattle.search.specs.Machine.{State, Result}
 use Rattle.planner.specs.declared.frontier.Reached.{Reached}
-use Rattle.planner.specs.declared.frontier.Frontier.{Frontier}
-use Rattle.planner.specs.Views.{size, capacity, row_of, rows_of, entries_of, entry_of, state_of}
-use Rattle.planner.specs.Good.{Below, Good, After}
-use Rattle.planner.proofs.Goods.{same, added, written, then}
-use Rattle.planner.proofs.Maps.{find_rows, number_in, set_map, get_d_map, some_of}
+use Rattle.planner.specs.Views.{capacity, row_of, rows_of, entries_of}
+use Rattle.planner.proofs.Goods.{same, added, then}
 use Rattle.planner.proofs.Relaxes.{newly, not_newly, some_added, none_added}
 use Rattle.planner.proofs.frontier.Frontier.found_new.Goals as goal
 

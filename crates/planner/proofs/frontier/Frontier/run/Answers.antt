@@ -1,8 +1,8 @@
-use Rattle.std.proofs.Common.{◌≡◌, ℕ, ◌<◌, ◌≤◌, Ok, Err, sym, refl, ap, ◌∙◌, subst, arith}
+use Rattle.std.proofs.Common.{◌≡◌, ℕ, ◌<◌, Ok, sym, ap, ◌∙◌, subst}
 use Rattle.std.proofs.lemmas.Result.{err_from_is_err_and}
 use Rattle.kinds.specs.Kind.{Kind, kind}
 use Rattle.graph.specs.Meaning.{Meaning, meaning}
-use Rattle.search.specs.Machine.{State, Turned, more, done, turn, Ends, last, next}
+use Rattle.search.specs.Machine.{State, more, done, turn, Ends, last, next}
 use Rattle.search.specs.Queue.{first_out}
 use Rattle.search.specs.Outcome.{Outcome, stopped}
 use Rattle.search.proofs.Falls.{potential, falls}

@@ -1,4 +1,3 @@
-use Rattle.std.proofs.Common.{◌≡◌}
 use Rattle.graph.specs.Meaning.{meaning}
 use Rattle.kinds.specs.Kind.{kind}
 use Rattle.search.specs.Machine.{Ends}

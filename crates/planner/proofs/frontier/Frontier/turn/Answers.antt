@@ -1,12 +1,11 @@
-use Rattle.std.proofs.Common.{◌≡◌, ℕ, ◌+◌, ◌-◌, ◌<◌, ◌≤◌, true, false, sym, refl, ap, ◌∙◌, subst, arith}
+use Rattle.std.proofs.Common.{sym, ap, ◌∙◌, subst}
 use Rattle.graph.specs.Meaning.{meaning}
 use Rattle.std.proofs.lemmas.Result.{err_from_is_err_and}
-use Rattle.kinds.specs.Kind.{Kind, kind}
+use Rattle.kinds.specs.Kind.{kind}
 use Rattle.store.specs.Heaps.{waits}
 use Rattle.store.specs.Registers.{listed}
-use Rattle.search.specs.Machine.{State, Result, refused, turned}
-use Rattle.search.specs.Queue.{first_out}
-use Rattle.planner.specs.Views.{size, capacity, state_of, result_of, turned_of, found_in, entry_of, entries_of}
+use Rattle.search.specs.Machine.{refused, turned}
+use Rattle.planner.specs.Views.{size, capacity, state_of, turned_of, found_in, entry_of, entries_of}
 use Rattle.planner.proofs.Goods.{then, popped}
 use Rattle.planner.proofs.Maps.{first_entries, below_first, below_without, without_entries, option_of}
 use Rattle.planner.proofs.Turning.{turn_none, turn_goal, turn_more, row_is}

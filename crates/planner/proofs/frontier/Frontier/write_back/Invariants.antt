@@ -1,4 +1,4 @@
-use Rattle.std.proofs.Common.{◌≡◌, ◌+◌, ◌-◌, ◌<◌, ◌≤◌, [], map, take, drop}
+use Rattle.std.proofs.Common.{◌≡◌, ◌<◌, ◌≤◌, [], map, take, drop}
 use Rattle.store.specs.Registers.{listed}
 use Rattle.search.specs.Rows.{walk}
 use Rattle.planner.specs.Views.{size, rows_of}

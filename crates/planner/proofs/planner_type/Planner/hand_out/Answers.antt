@@ -1,12 +1,12 @@
-use Rattle.std.proofs.Common.{◌≡◌, ℕ, ◌<◌, ◌≤◌, Bool, true, false, cond, leb, List, [], ◌∷◌, map, length, take, Some, None, Option, sym, refl, ap, ◌∙◌, subst, arith, ltb-false, ltb-true, le-leb}
+use Rattle.std.proofs.Common.{◌≡◌, ℕ, ◌<◌, ◌≤◌, true, false, leb, List, [], ◌∷◌, length, Some, Option, sym, refl, ap, ◌∙◌, arith, ltb-false, ltb-true, le-leb}
 use borrow.Author.Tests.{lt-leb}
 use Rattle.std.proofs.lemmas.List.{length-map}
 use Rattle.store.specs.Registers.{listed}
 use Rattle.search.specs.Rows.{Row, walk}
 use Rattle.search.specs.declared.refusal.HandOutRefusal.TheVariants.{Short}
 use Rattle.search.specs.Answers.{Capacity}
-use Rattle.search.specs.Calls.{Held, Given, gave, finished, denied, handed, kept}
-use Rattle.planner.specs.Views.{size, row_of, rows_of, route_to}
+use Rattle.search.specs.Calls.{Held, gave, denied, handed, kept}
+use Rattle.planner.specs.Views.{row_of, rows_of}
 use Rattle.planner.specs.Pending.{routes_to}
 use Rattle.planner.proofs.planner_type.Planner.hand_out.Goals as goal
 

@@ -1,4 +1,4 @@
-use Rattle.std.proofs.Common.{◌≡◌, ℕ, ◌+◌, ◌<◌, ◌≤◌, Ok, sym, refl, ap, ◌∙◌, subst, arith}
+use Rattle.std.proofs.Common.{◌≡◌, ℕ, ◌<◌, Ok, ◌∙◌, subst, arith}
 use Rattle.store.specs.Registers.{listed}
 use Rattle.planner.specs.declared.frontier.Frontier.{Frontier}
 use Rattle.planner.specs.Views.{size, capacity, ended_in}

@@ -1,4 +1,4 @@
-use Rattle.std.proofs.Common.{sym, refl}
+use Rattle.std.proofs.Common.{sym}
 use Rattle.store.proofs.Buckets.{number_some, number_none}
 use Rattle.store.proofs.register.Register.find.Goals as goal
 

@@ -1,4 +1,4 @@
-use Rattle.std.proofs.Common.{◌≡◌, ℕ, ◌<◌, ◌≤◌, length, get_or, sym, refl, ap, ◌∙◌, arith}
+use Rattle.std.proofs.Common.{◌<◌, sym, ap, ◌∙◌, arith}
 use Rattle.store.specs.declared.rows.Row.{Row}
 use Rattle.store.proofs.Buckets.{length_found, found_at}
 use Rattle.store.proofs.register.Register.value.Goals as goal
