@@ -1,6 +1,6 @@
 -- The worked examples, by computation.
 use Rattle.std.proofs.Common.{◌≡◌, ℕ, zero, suc, ◌+◌, ◌≤◌, true, eqb, ltb, List, [], ◌∷◌, length, get_or, refl, ap, subst, arith}
-use Rattle.std.specs.List.{AllByRecursion as All}
+use Rattle.std.specs.List.{AllByRecursion}
 use Rattle.std.proofs.lemmas.List.{get_or_past}
 use Rattle.std.proofs.lemmas.Bool.{ltb-false, ne_eqb, cond-false}
 use Rattle.graph.specs.Meaning.{Road, opened, closed, faulty, Lawful}
@@ -37,14 +37,14 @@ Leads n closed = Unit {0}
 Leads n (faulty f) = Unit {0}
 
 abbrev Proper : ℕ → List Road → Type 0
-Proper n ds = (length ds ≤ 65535) × All (Leads n) ds
+Proper n ds = (length ds ≤ 65535) × AllByRecursion (Leads n) ds
 
-all_at : {X : Type 0} (P : X → Type 0) (d : X) → P d → (xs : List X) → All P xs → (i : ℕ) → P (get_or xs i d)
+all_at : {X : Type 0} (P : X → Type 0) (d : X) → P d → (xs : List X) → AllByRecursion P xs → (i : ℕ) → P (get_or xs i d)
 all_at P d p [] a i = p
 all_at P d p (x ∷ xs) a zero = a.0
 all_at P d p (x ∷ xs) a (suc i) = all_at P d p xs a.1 i
 
-lawful : (table : List (List Road)) (guess : ℕ → ℕ) → All (Proper (length table)) table → ((k : ℕ) → length table ≤ k → guess k ≡ 0) → Lawful (stations table) guess
+lawful : (table : List (List Road)) (guess : ℕ → ℕ) → AllByRecursion (Proper (length table)) table → ((k : ℕ) → length table ≤ k → guess k ≡ 0) → Lawful (stations table) guess
 lawful table guess proper unguessed =
     record {
       zones = λ k. omega arith;

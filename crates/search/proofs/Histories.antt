@@ -1,6 +1,6 @@
 -- The law over all histories, by the laws of the searches.
 use Rattle.std.proofs.Common.{◌≡◌, ℕ, ◌<◌, Bool, true, false, cond, leb, List, [], ◌∷◌, ◌++◌, length, Some, None, sym, refl, ap, ◌∙◌, subst, arith}
-use Rattle.std.specs.List.{AllByRecursion as All}
+use Rattle.std.specs.List.{AllByRecursion}
 use Rattle.kinds.specs.Kind.{Kind}
 use Rattle.graph.specs.Meaning.{Meaning}
 use Rattle.graph.specs.Routes.{Weighs, Route}
@@ -15,7 +15,7 @@ use Rattle.search.proofs.Never.{never}
 use Rattle.search.proofs.Searches.{searches_right}
 
 -- ---- what it says of hand-outs that they deal routes
-deals_all : (P : List ℕ → Type 0) (rs : List (List ℕ)) (os : List Out) → Deals rs os → All P rs → All P (given os)
+deals_all : (P : List ℕ → Type 0) (rs : List (List ℕ)) (os : List Out) → Deals rs os → AllByRecursion P rs → AllByRecursion P (given os)
 deals_all P rs [] d a = tt
 deals_all P [] (Some ks ∷ os) d a = never _ (cc)
 deals_all P [] (None ∷ os) d a = deals_all P [] os d.1 a
@@ -33,7 +33,7 @@ deals_none [] d = tt
 deals_none (o ∷ os) d = (d.0, deals_none os d.1)
 
 -- ---- a seek by its outcome, and hand-outs that deal the outcome's routes
-a_route : (M : Meaning) (start : ℕ) (rs : List (List ℕ)) → 0 < length rs → All (Route M start) rs → Begins M start
+a_route : (M : Meaning) (start : ℕ) (rs : List (List ℕ)) → 0 < length rs → AllByRecursion (Route M start) rs → Begins M start
 a_route M start [] l a = absurd (omega arith)
 a_route M start (r ∷ rs) l a = (r, a.0)
 

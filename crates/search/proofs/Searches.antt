@@ -1,6 +1,6 @@
 -- The laws of the searches, method by method.
 use Rattle.std.proofs.Common.{◌≡◌, ℕ, ◌<◌, Bool, true, false, List, length, sym, refl, ap, subst, arith}
-use Rattle.std.specs.List.{AllByRecursion as All}
+use Rattle.std.specs.List.{AllByRecursion}
 use Rattle.kinds.specs.Kind.{Kind}
 use Rattle.graph.specs.Meaning.{Meaning}
 use Rattle.graph.specs.Routes.{Route, True}
@@ -23,7 +23,7 @@ one_right : (m : Method) (K : Kind) (M : Meaning) (guess : ℕ → ℕ) (cap : C
     → Right m K M guess cap start
 one_right m K M guess cap start g guided lists shows =
     record {
-      sound = λ c rs e. let z = shows (found c rs) e in subst (λ (x : List (List ℕ)). (0 < length x) × All (Route M start) x) (sym z.only) (omega arith, (z.is, tt));
+      sound = λ c rs e. let z = shows (found c rs) e in subst (λ (x : List (List ℕ)). (0 < length x) × AllByRecursion (Route M start) x) (sym z.only) (omega arith, (z.is, tt));
       complete = λ e. shows none e;
       least = λ t c rs e. (shows (found c rs) e).lightest (guided t);
       listed = λ c rs e. lists rs (ap length (shows (found c rs) e).only);

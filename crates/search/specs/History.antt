@@ -1,6 +1,6 @@
 -- Histories of a planner: one making, then any calls; and the law that holds of each, in the words of routes.
 use Rattle.std.specs.Prelude.{◌≡◌, ℕ, ◌↔◌, List, [], ◌∷◌, ◌++◌}
-use Rattle.std.specs.List.{AllByRecursion as All}
+use Rattle.std.specs.List.{AllByRecursion}
 use Rattle.kinds.specs.Kind.{Kind}
 use Rattle.graph.specs.Meaning.{Meaning, Lawful}
 use Rattle.graph.specs.Routes.{Route}
@@ -26,7 +26,7 @@ pub record Finds (M : Meaning) (start : ℕ) (a : Answer) (os : List Out) : Type
   pub cost : ℕ
   pub answers : a ≡ costs cost
   pub first : FirstGives os
-  pub routes : All (Route M start) (given os)
+  pub routes : AllByRecursion (Route M start) (given os)
 
 -- it finds none: it answers no route, and all its hand-outs answer finished
 pub record FindsNone (a : Answer) (os : List Out) : Type 0 where

@@ -1,6 +1,6 @@
 -- What holds of every search, in the words of routes: for every method, every cost kind, every lawful graph, any rows and any start.
 use Rattle.std.specs.Prelude.{◌≡◌, ℕ, ◌+◌, ◌<◌, ◌≤◌, true, List, length}
-use Rattle.std.specs.List.{AllByRecursion as All}
+use Rattle.std.specs.List.{AllByRecursion}
 use Rattle.kinds.specs.Kind.{Kind}
 use Rattle.graph.specs.Meaning.{Meaning, Lawful}
 use Rattle.graph.specs.Routes.{Weighs, Route, True}
@@ -27,13 +27,13 @@ Lists astar M guess start rs = length rs ≡ 1
 
 -- a cost that each of these routes weighs, and that no route from the start undercuts
 pub record LightestAt (M : Meaning) (start : ℕ) (rs : List (List ℕ)) (c : ℕ) : Type 0 where
-  pub weigh : All (λ ks. Weighs M start ks c) rs
+  pub weigh : AllByRecursion (λ ks. Weighs M start ks c) rs
   pub least : (ks : List ℕ) (w : ℕ) → Weighs M start ks w → c ≤ w
 
 module _ (m : Method) (K : Kind) (M : Meaning) (guess : ℕ → ℕ) (cap : Capacity) (start : ℕ) where
   -- what is found are routes from the start, at least one
   abbrev pub Sound : Type 0
-  Sound = (c : ℕ) (rs : List (List ℕ)) → Answers m K M guess cap start (found c rs) → (0 < length rs) × All (Route M start) rs
+  Sound = (c : ℕ) (rs : List (List ℕ)) → Answers m K M guess cap start (found c rs) → (0 < length rs) × AllByRecursion (Route M start) rs
 
   -- where nothing is found, no route begins at the start
   abbrev pub Complete : Type 0

@@ -1,6 +1,6 @@
 -- The hand-outs of a seek: those up to the next seek that are not refused.
 use Rattle.std.specs.Prelude.{◌≡◌, ℕ, List, [], ◌∷◌, Some, None, Option}
-use Rattle.std.specs.List.{AllByRecursion as All}
+use Rattle.std.specs.List.{AllByRecursion}
 use Rattle.search.specs.Calls.{gave, finished, denied, Event, sought, handed_out}
 
 -- what a hand-out that is not refused comes to: the keys that it gives, or nothing where it answers finished
@@ -29,7 +29,7 @@ FirstGives (None ∷ os) = ⊥
 
 -- all answer finished
 abbrev pub AllFinished : List Out → Type 0
-AllFinished os = All (λ o. o ≡ None) os
+AllFinished os = AllByRecursion (λ o. o ≡ None) os
 
 -- they give these routes in their order, each once, and answer finished after the last
 abbrev pub Deals : List (List ℕ) → List Out → Type 0
