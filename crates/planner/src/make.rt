@@ -11,9 +11,7 @@ use crate::frontier::{Frontier, Reached};
 use crate::planner_type::Planner;
 use crate::refusal::MakeRefusal;
 use kinds::{CostKind, NodeKind};
-use store::heap::Heap;
 use store::links::{Link, Links};
-use store::register::Register;
 use store::rows::Row;
 use store::slots::Slot;
 
@@ -40,10 +38,8 @@ impl<'a, N: NodeKind, C: CostKind> Planner<'a, N, C> {
         ensures begins { History (kind C.CostKind.fits C.CostKind.greatest) [] (held_of N.NodeKind.key C.CostKind.weight result) }
         ensures held { held_of N.NodeKind.key C.CostKind.weight result ≡ record { capacity = record { rows = length rows.entry.now; links = length links.old }; pending = [] } }
     {
-        let register = Register::new(rows);
-        let heap = Heap::new(slots);
         Planner {
-            frontier: Frontier { register, heap },
+            frontier: Frontier::over(rows, slots),
             sink: None,
             links: Links::new(links),
         }

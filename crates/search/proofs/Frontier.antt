@@ -45,10 +45,10 @@ module _ (M : Meaning) (start : ℕ) (Waits Taken : ℕ → Type 0) (rows : List
       → ((j : ℕ) (r : Row) → At rows j r → Waits j → bound ≤ r.cost + guess r.key)
       → ((j : ℕ) (r : Row) → At rows j r → M.goal r.key ≡ true → Taken j → bound ≤ r.cost)
       → (ks : List ℕ) (w : ℕ) → Weighs M start ks w → bound ≤ w
-  no_lighter guess law true-guess bound waiting taken ks w h =
+  no_lighter guess law true_guess bound waiting taken ks w h =
       let f = from_start h in
       let v = weigh M guess law f.path in
-      let g : guess f.row.key ≤ v.0 = true-guess f.row.key f.keys v.0 (inv.held f.at f.row f.there) v.1 in
+      let g : guess f.row.key ≤ v.0 = true_guess f.row.key f.keys v.0 (inv.held f.at f.row f.there) v.1 in
       elim f.open_there [
         | inl b ↦ omega (arith, waiting f.at f.row f.there b, v.2, f.within)
         | inr b ↦ omega (arith, taken f.at f.row f.there b.1 b.0, f.within)

@@ -81,7 +81,7 @@ up_from rows (suc j) q n a c = up q a c
 module _ (M : Meaning) (guess : ℕ → ℕ) (law : Lawful M guess) (start : ℕ) (Due : ℕ → ℕ → Type 0) (W W' T : ℕ → Type 0) (rows rows' : List Row)
     (i rank k w j : ℕ) (r : Row)
     (inv : Inv M start Due W T rows) (there : At rows i r) (road : M.road r.key rank ≡ opened k w)
-    (p : Placed rows rows' j (row_of k (r.cost + w) i)) (waits-now : W' j) (waits_still : (m : ℕ) → (m ≡ j → ⊥) → W m → W' m) where
+    (p : Placed rows rows' j (row_of k (r.cost + w) i)) (waits_now : W' j) (waits_still : (m : ℕ) → (m ≡ j → ⊥) → W m → W' m) where
   i_not_j : i ≡ j → ⊥
   i_not_j e = let b = p.was r (subst (λ (y : ℕ). At rows y r) e there) in omega arith
 
@@ -123,7 +123,7 @@ module _ (M : Meaning) (guess : ℕ → ℕ) (law : Lawful M guess) (start : ℕ
 
   keep_settled : (m : ℕ) (q : Row) → At rows' m q → W' m ⊎ Settled M (Due m) (T m) rows' q
   keep_settled m q a = elim (cases_eq m j) [
-    | inl e ↦ inl (subst (λ (y : ℕ). W' y) (sym e) waits-now)
+    | inl e ↦ inl (subst (λ (y : ℕ). W' y) (sym e) waits_now)
     | inr n ↦ elim (inv.settled m q (p.from m q n a)) [
       | inl b ↦ inl (waits_still m n b)
       | inr b ↦ inr (record { goal = b.goal; followed = λ rank' k' w' d x. still rows rows' j _ p k' (q.cost + w') (b.followed rank' k' w' d x) })

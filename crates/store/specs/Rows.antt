@@ -18,6 +18,10 @@ Single {N} {V} key xs n = (j k : ℕ) (d : Row N V) → j < n → k < n → key 
 abbrev pub known : {N V : Type 0} → Row N V → N × V
 known x = (x.node, x.value)
 
+-- a row with another value
+abbrev pub valued : {N V : Type 0} → Row N V → V → Row N V
+valued x v = record { node = x.node; value = v; next = x.next; head = x.head }
+
 -- what the first n rows know, in the order of finding
 unfoldable pub found : {N V : Type 0} → List (Row N V) → ℕ → List (N × V)
 found xs n = map known (take n xs)

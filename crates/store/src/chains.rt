@@ -1,7 +1,7 @@
 // The hash chains of a register: rows of one bucket are linked from the latest to the earliest.
 ghost use Rattle.std.specs.Prelude.{◌≡◌, ℕ, ◌+◌, ◌%◌, ◌<◌, ◌≤◌, [], ◌∷◌, ◌++◌, length, Some, None, MatchOption, ◌==◌, ◌≢◌, slice_index_or};
 ghost use Rattle.store.specs.declared.rows.Row.{Row};
-ghost use Rattle.store.specs.Rows.{bucket, Linked, Single, found, number_of, Valued};
+ghost use Rattle.store.specs.Rows.{bucket, Linked, Single, found, valued, Valued};
 
 use crate::rows::Row;
 use kinds::NodeKind;
@@ -106,12 +106,25 @@ pub(crate) fn value_at<N: NodeKind, V: Copy>(rows: &[Row<N, V>], i: usize) -> V
     row.value
 }
 
-// Writes the value of row i, and nothing else.
+// A row with another value.
+fn with_value<N: NodeKind, V: Copy>(row: Row<N, V>, other: V) -> Row<N, V>
+    ensures { result ≡ valued row other }
+{
+    Row {
+        node: row.node,
+        value: other,
+        next: row.next,
+        head: row.head,
+    }
+}
+
+// Gives row i another value; the chains stay.
 pub(crate) fn revalue<N: NodeKind, V: Copy>(rows: &mut [Row<N, V>], i: usize, value: V)
     requires { i < length rows.old }
     ensures linked { (n : ℕ) → Linked N.NodeKind.marks rows.old n → Linked N.NodeKind.marks rows.new n }
     ensures single { (n : ℕ) → Single N.NodeKind.key rows.old n → Single N.NodeKind.key rows.new n }
     ensures found { (n : ℕ) → i < n → n ≤ length rows.old → Valued (found rows.old n) (found rows.new n) i value }
 {
-    rows[i].value = value;
+    let old = rows[i];
+    rows[i] = with_value(old, value);
 }

@@ -32,7 +32,13 @@ pub(crate) fn seat<C: CostKind>(slots: &mut [Slot<C>], i: usize, e: Entry<C>)
     requires few { i < 65536 }
     ensures { Seated slots.old slots.new i e }
 {
-    slots[i].entry = e;
+    // Field by field: copied whole, an entry goes through memory in two overlapping parts, which is slow to read back.
+    slots[i].entry = Entry {
+        row: e.row,
+        estimate: e.estimate,
+        cost: e.cost,
+        push: e.push,
+    };
     slots[e.row as usize].place = i as u16;
 }
 

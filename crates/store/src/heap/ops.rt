@@ -29,11 +29,25 @@ impl<'a, C: CostKind> Heap<'a, C> {
         ensures rows { rows result ≡ length slots.old }
         ensures next { result.count ≡ count }
     {
-        Heap {
+        let mut heap = Heap {
             slots,
             len: 0,
-            count,
-        }
+            count: 0,
+        };
+        heap.restart(count);
+        heap
+    }
+
+    // Takes every entry out, in constant time; the next push has this number.
+    fn restart(&mut self, count: u64)
+        requires { rows self.old ≤ 65536 }
+        ensures empty { waits self.new ≡ [] }
+        ensures sound { Sound C.CostKind.weight self.new }
+        ensures rows { rows self.new ≡ rows self.old }
+        ensures next { self.new.count ≡ count }
+    {
+        self.len = 0;
+        self.count = count;
     }
 
     // Takes every entry out, in constant time.
@@ -43,8 +57,7 @@ impl<'a, C: CostKind> Heap<'a, C> {
         ensures sound { Sound C.CostKind.weight self.new }
         ensures rows { rows self.new ≡ rows self.old }
     {
-        self.len = 0;
-        self.count = 0;
+        self.restart(0);
     }
 
     // Sees to it that there is a next push number.

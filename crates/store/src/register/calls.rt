@@ -16,7 +16,17 @@ impl<'a, N: NodeKind, V: Copy> Register<'a, N, V> {
         ensures kept { Kept N.NodeKind.key N.NodeKind.marks result }
         ensures room { room result ≡ length rows.old }
     {
-        Register { rows, len: 0 }
+        let mut register = Register { rows, len: 0 };
+        register.clear();
+        register
+    }
+
+    // Counts no row as used.
+    fn forget(&mut self)
+        ensures used { self.new.len ≡ 0 }
+        ensures rows { self.new.rows ≡ self.old.rows }
+    {
+        self.len = 0;
     }
 
     // Drops every row, in constant time.
@@ -26,7 +36,15 @@ impl<'a, N: NodeKind, V: Copy> Register<'a, N, V> {
         ensures kept { Kept N.NodeKind.key N.NodeKind.marks self.new }
         ensures room { room self.new ≡ room self.old }
     {
-        self.len = 0;
+        self.forget();
+    }
+
+    // The number of the first row that is free.
+    fn used(&self) -> usize
+        ensures { result ≡ self.now.len }
+    {
+        let count = self.len;
+        count
     }
 
     // How many rows are in use.
@@ -34,8 +52,15 @@ impl<'a, N: NodeKind, V: Copy> Register<'a, N, V> {
         requires { Fits self.now }
         ensures { result ≡ length (listed self.now) }
     {
-        let used = self.len;
-        used
+        self.used()
+    }
+
+    // Whether a row is free.
+    fn has_room(&self) -> bool
+        requires { Fits self.now }
+        ensures { result ≡ nat_lt (length (listed self.now)) (room self.now) }
+    {
+        self.len() < self.rows.len()
     }
 
     // The row of the node's key.
@@ -50,6 +75,22 @@ impl<'a, N: NodeKind, V: Copy> Register<'a, N, V> {
         }
     }
 
+    // Gives a node whose key is new the first row that is free.
+    fn append(&mut self, node: N, value: V) -> u16
+        requires kept { Kept N.NodeKind.key N.NodeKind.marks self.old }
+        requires fresh { number_of N.NodeKind.key (N.NodeKind.key node) (listed self.old) ≡ None }
+        requires free { length (listed self.old) < room self.old }
+        ensures number { result ≡ length (listed self.old) }
+        ensures listed { listed self.new ≡ listed self.old ++ (node, value) ∷ [] }
+        ensures kept { Kept N.NodeKind.key N.NodeKind.marks self.new }
+        ensures room { room self.new ≡ room self.old }
+    {
+        let n = self.len;
+        insert(self.rows, n, node, value);
+        self.len = n + 1;
+        n as u16
+    }
+
     // Gives a node whose key is new the next row; nothing where all rows are in use.
     pub fn add(&mut self, node: N, value: V) -> Option<u16>
         requires kept { Kept N.NodeKind.key N.NodeKind.marks self.old }
@@ -59,13 +100,11 @@ impl<'a, N: NodeKind, V: Copy> Register<'a, N, V> {
         ensures kept { Kept N.NodeKind.key N.NodeKind.marks self.new }
         ensures room { room self.new ≡ room self.old }
     {
-        let n = self.len;
-        if n >= self.rows.len() {
-            return None;
+        if self.has_room() {
+            Some(self.append(node, value))
+        } else {
+            None
         }
-        insert(self.rows, n, node, value);
-        self.len = n + 1;
-        Some(n as u16)
     }
 
     // The node of a row, as it was first found.
