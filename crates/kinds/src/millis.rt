@@ -1,7 +1,5 @@
 // Milliseconds: a cost of one part.
 ghost use Rattle.std.specs.Prelude.{◌≡◌, ℕ, ◌+◌, ◌≤◌, nat_le};
-ghost use mathlib.Core.HLevel.{is_prop→PathP};
-ghost use Rattle.std.proofs.Math.Bridge.{le_prop};
 ghost use Rattle.std.proofs.Common.{rules, arith};
 
 use crate::cost_kind::CostKind;
@@ -20,17 +18,17 @@ impl CostKind for Millis {
 
     ghost greatest = { 4294967295 };
 
-    ghost apart = { λ a b e j. record { millis = e j; small = is_prop→PathP (λ k. e k ≤ 4294967295) (λ k. le_prop) a.small b.small j } };
+    ghost apart = { Prim.grind (arith, Self.row.coded.inj) };
 
-    ghost most = { first_of (Prim.search rules, Prim.grind (arith, Self.row.coded.inj)) };
+    ghost most = { Prim.search rules };
 
-    ghost bound = { first_of (Prim.search rules, Prim.grind (arith, Self.row.coded.inj)) };
+    ghost bound = { Prim.search rules };
 
-    ghost zero_first = { first_of (Prim.search rules, Prim.grind (arith, Self.row.coded.inj)) };
+    ghost zero_first = { Prim.search rules };
 
-    ghost zero_last = { first_of (Prim.search rules, Prim.grind (arith, Self.row.coded.inj)) };
+    ghost zero_last = { Prim.search rules };
 
-    ghost small = { first_of (Prim.search rules, Prim.grind (arith, Self.row.coded.inj)) };
+    ghost small = { Prim.search rules };
 
     fn zero() -> Millis {
         Millis { millis: 0 }

@@ -21,17 +21,17 @@ impl CostKind for Trims {
 
     ghost greatest = { 18446744073709551615 };
 
-    ghost apart = { first_of (Prim.search rules, Prim.grind (arith, Self.row.coded.inj)) };
+    ghost apart = { Prim.grind (arith, Self.row.coded.inj) };
 
-    ghost most = { first_of (Prim.search rules, Prim.grind (arith, Self.row.coded.inj)) };
+    ghost most = { Prim.search rules };
 
-    ghost bound = { first_of (Prim.search rules, Prim.grind (arith, Self.row.coded.inj)) };
+    ghost bound = { Prim.search rules };
 
-    ghost zero_first = { first_of (Prim.search rules, Prim.grind (arith, Self.row.coded.inj)) };
+    ghost zero_first = { Prim.search rules };
 
-    ghost zero_last = { first_of (Prim.search rules, Prim.grind (arith, Self.row.coded.inj)) };
+    ghost zero_last = { Prim.search rules };
 
-    ghost small = { first_of (Prim.search rules, Prim.grind (arith, Self.row.coded.inj)) };
+    ghost small = { Prim.search rules };
 
     fn zero() -> Trims {
         Trims {
