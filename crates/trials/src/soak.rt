@@ -12,6 +12,13 @@ fn pages(rt: &HostRuntime) -> io::Result<String> {
     fs::read_to_string(rt, "/proc/self/statm")
 }
 
+// Whether two readings say the same. Reading takes memory itself, and what two at once take is there from then on.
+fn settled(rt: &HostRuntime) -> io::Result<bool> {
+    let first = pages(rt)?;
+    let second = pages(rt)?;
+    Ok(first.as_str() == second.as_str())
+}
+
 // Seeks so many times by either search, handing out each route, and answers how many times a route came.
 fn seeks(
     planner: &mut Planner<Station, Trims>,
@@ -52,6 +59,7 @@ fn over(rt: &HostRuntime, bytes: &[u8]) -> anyhow::Result<()> {
         links.as_mut_slice(),
     );
     let mut found = seeks(&mut planner, &chart, nodes.as_mut_slice(), 100);
+    let _ = settled(rt)?;
     let before = pages(rt)?;
     found = found.saturating_add(seeks(&mut planner, &chart, nodes.as_mut_slice(), 10000));
     let after = pages(rt)?;
