@@ -104,7 +104,7 @@ fn search_with(
     links: &mut [Link],
     nodes: &mut [Station],
 ) -> Told
-    ensures { BySizes (sizes_fit (length rows.entry.now) (length slots.old) (length links.old)) method chart.now.bytes.now (record { rows = length rows.entry.now; links = length links.old }) (length nodes.old) result (map station_key (take result.length nodes.new)) }
+    ensures { BySizes (sizes_fit (length rows.old) (length slots.old) (length links.old)) method chart.now.bytes.now (record { rows = length rows.old; links = length links.old }) (length nodes.old) result (map station_key (take result.length nodes.new)) }
 {
     match planner::check(rows.len(), slots.len(), links.len()) {
         Err(refusal) => Told::bare(refusal.number() as u32),
@@ -127,7 +127,7 @@ fn search_out(
     out: &mut [u32],
 ) -> Told
     requires { length nodes.old ≡ length out.old }
-    ensures { BySizes (sizes_fit (length rows.entry.now) (length slots.old) (length links.old)) method chart.now.bytes.now (record { rows = length rows.entry.now; links = length links.old }) (length nodes.old) result (take result.length out.new) }
+    ensures { BySizes (sizes_fit (length rows.old) (length slots.old) (length links.old)) method chart.now.bytes.now (record { rows = length rows.old; links = length links.old }) (length nodes.old) result (take result.length out.new) }
 {
     let told = search_with(method, chart, times, rows, slots, links, nodes);
     copy_out(nodes, out);

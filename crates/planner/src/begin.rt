@@ -1,6 +1,6 @@
 // The first row of a search.
 ghost use Rattle.std.specs.Prelude.{◌≡◌, ℕ, ◌<◌, ◌≤◌, [], length};
-ghost use Rattle.store.specs.Heaps.{rows as rows_of, waits};
+ghost use Rattle.store.specs.Heaps.{rows, waits};
 ghost use Rattle.store.specs.Registers.{room, listed, Fits};
 ghost use Rattle.search.specs.Machine.{begin as begins};
 ghost use Rattle.planner.specs.Views.{state_of, capacity};
@@ -14,22 +14,22 @@ use store::rows::Row;
 use store::slots::Slot;
 
 impl<'a, N: NodeKind, C: CostKind> Frontier<'a, N, C> {
-    // A frontier with no row, over rows and a slot for each.
+    // A frontier with no row, over lent rows and a slot for each.
     pub(crate) fn over(
-        rows: &'a mut [Row<N, Reached<C>>],
+        lent: &'a mut [Row<N, Reached<C>>],
         slots: &'a mut [Slot<C>],
     ) -> Frontier<'a, N, C>
-        requires some { 0 < length rows.old }
-        requires few { length rows.old ≤ 32768 }
-        requires even { length slots.old ≡ length rows.old }
+        requires some { 0 < length lent.old }
+        requires few { length lent.old ≤ 32768 }
+        requires even { length slots.old ≡ length lent.old }
         ensures some { 0 < capacity result }
         ensures few { capacity result ≤ 32768 }
         ensures empty { listed result.register ≡ [] }
         ensures fits { Fits result.register }
-        ensures room { capacity result ≡ length rows.old }
-        ensures even { rows_of result.heap ≡ room result.register }
+        ensures room { capacity result ≡ length lent.old }
+        ensures even { rows result.heap ≡ room result.register }
     {
-        let register = Register::new(rows);
+        let register = Register::new(lent);
         let heap = Heap::new(slots);
         Frontier { register, heap }
     }
@@ -37,7 +37,7 @@ impl<'a, N: NodeKind, C: CostKind> Frontier<'a, N, C> {
     // Drops every row.
     pub(crate) fn clear(&mut self)
         requires few { capacity self.old ≤ 32768 }
-        requires even { rows_of self.old.heap ≡ room self.old.register }
+        requires even { rows self.old.heap ≡ room self.old.register }
         ensures good { Good N.NodeKind.key N.NodeKind.marks C.CostKind.weight self.new }
         ensures rows { listed self.new.register ≡ [] }
         ensures heap { waits self.new.heap ≡ [] }

@@ -36,7 +36,7 @@ impl<'a, N: NodeKind, C: CostKind> Planner<'a, N, C> {
         requires { sizes_fit (length rows.old) (length slots.old) (length links.old) ≡ true }
         ensures law { Law (kind C.CostKind.fits C.CostKind.greatest) }
         ensures begins { History (kind C.CostKind.fits C.CostKind.greatest) [] (held_of N.NodeKind.key C.CostKind.weight result) }
-        ensures held { held_of N.NodeKind.key C.CostKind.weight result ≡ record { capacity = record { rows = length rows.entry.now; links = length links.old }; pending = [] } }
+        ensures held { held_of N.NodeKind.key C.CostKind.weight result ≡ record { capacity = record { rows = length rows.old; links = length links.old }; pending = [] } }
     {
         Planner {
             frontier: Frontier::over(rows, slots),
