@@ -4,21 +4,7 @@ use crate::method::Method;
 use chart::Chart;
 use kinds::{Station, Trims};
 use planner::Planner;
-use search::SeekRefusal;
 use std::io;
-
-// Seeks from station 0.
-fn seek(
-    method: Method,
-    planner: &mut Planner<Station, Trims>,
-    chart: &Chart,
-) -> Result<Option<Trims>, SeekRefusal> {
-    let start = Station { id: 0 };
-    match method {
-        Method::Dijkstra => planner.dijkstra(chart, start),
-        Method::Astar => planner.astar(chart, start),
-    }
-}
 
 fn print_stations(rt: &impl Print, stations: &[Station]) -> io::Result<()> {
     for station in stations {
@@ -78,7 +64,7 @@ fn report(
     out: &mut [Station],
 ) -> io::Result<()> {
     let name = method.name();
-    match seek(method, planner, chart) {
+    match method.seek(planner, chart, Station { id: 0 }) {
         Err(refusal) => {
             let number = refusal.number();
             println!(rt; "{name} refused {number}")
