@@ -29,11 +29,7 @@ fn seek(
 ) -> Result<Option<Trims>, SeekRefusal>
     ensures { Call trims_kind (held_of station_key trims_weight planner.old) (sought (search_of method) (meaning_in chart.now.bytes.now) (guess_in chart.now.bytes.now) 0 (answer_of trims_weight result)) (held_of station_key trims_weight planner.new) }
 {
-    let start = Station { id: 0 };
-    match method {
-        Method::Dijkstra => planner.dijkstra(chart, start),
-        Method::Astar => planner.astar(chart, start),
-    }
+    method.seek(planner, chart, Station { id: 0 })
 }
 
 // Seeks once, and hands the route out.
