@@ -1,54 +1,30 @@
--- What is told of a route, from the contracts of the two calls.
-use Rattle.std.proofs.Common.{◌≡◌, ℕ, ◌≤◌, Bool, List, map, length, take, sym, refl, ap, ◌∙◌, subst}
-use Rattle.std.proofs.lemmas.List.{length-map, length-take-le, take-map}
+-- What is told of a chart, from what a planner over memory of known sizes came to.
+use Rattle.std.proofs.Common.{◌≡◌, ℕ, true, List, map, take, Ok, sym, ap, ◌∙◌, subst, inr}
+use Rattle.std.proofs.lemmas.List.{take-map}
 use Rattle.kinds.specs.declared.station.Station.{Station}
-use Rattle.kinds.specs.declared.trims.Trims.{Trims}
-use Rattle.chart.specs.Meaning.{guess_in}
-use Rattle.chart.specs.Lawful.{meaning_in}
-use Rattle.search.specs.Outcome.{routes}
-use Rattle.search.specs.Answers.{Capacity}
-use Rattle.search.specs.Calls.{Held, Answer, costs, Given, gave, Seek, handed}
-use Rattle.planner.specs.Making.{sizes_fit}
+use Rattle.chart.specs.Checked.{checked}
+use Rattle.search.specs.Calls.{Held}
+use Rattle.planner.specs.Making.{sizes_fit, made_over}
 use Rattle.report.specs.declared.method.Method.{Method}
 use Rattle.capi.specs.declared.told.Told.{Told}
-use Rattle.capi.specs.Codes.{search_of}
-use Rattle.capi.specs.Tells.{station_key, trims_weight, trims_kind, Says, Tells, BySizes}
+use Rattle.capi.specs.Tells.{station_key, Tells, ByChart}
 
-pub tells_route : {m : Method} {bytes : List ℕ} {s t : Held} {a : Answer} {g : Given} (room n : ℕ) (cost : Trims) (out : List Station)
-    → Seek trims_kind s (search_of m) (meaning_in bytes) (guess_in bytes) 0 a t
-    → a ≡ costs (trims_weight cost)
-    → g ≡ handed t.pending room
-    → g ≡ gave (map station_key (take n out))
-    → n ≤ length out
-    → Tells m bytes s.capacity room (record { code = 0; trims = cost.trims; millis = cost.millis; length = n }) (map station_key (take n out))
-tells_route {m} {bytes} {s} {t} {a} {g} room n cost out k e h f l =
-    let T : Told = record { code = 0; trims = cost.trims; millis = cost.millis; length = n } in
-    let W : List ℕ = map station_key (take n out) in
-    let long : n ≡ length W = sym (length-map (take n out) station_key ∙ length-take-le n out l) in
-    let whole : Says (costs (trims_weight cost)) (gave W) T W = (refl, refl, long, refl) in
-    let given : gave W ≡ handed (routes k.outcome) room = sym f ∙ h ∙ ap (λ (z : Held). handed z.pending room) k.leaves in
-    let said : Says (costs (trims_weight cost)) (handed (routes k.outcome) room) T W = subst (λ (x : Given). Says (costs (trims_weight cost)) x T W) given whole in
-    record {
-      outcome = k.outcome;
-      comes = k.comes;
-      says = subst (λ (x : Answer). Says x (handed (routes k.outcome) room) T W) (sym e ∙ k.answers) said;
-    }
-
--- the same of the stations' numbers in a row
-pub tells_out : (b : Bool) (m : Method) (bytes : List ℕ) (cap : Capacity) (room : ℕ) (t : Told) (nodes : List Station) (out : List ℕ)
+-- the planner, over a rows, b slots and l links, writes n nodes, and their numbers go out
+pub tells_chart : (m : Method) (bytes read : List ℕ) (rows room : ℕ) (t : Told) (s : Held) (nodes : List Station) (out : List ℕ) (a b l n : ℕ)
+    → read ≡ bytes
+    → Tells m read s.capacity n t (map station_key (take t.length nodes))
+    → checked bytes ≡ Ok tt
+    → sizes_fit a b l ≡ true
+    → s ≡ made_over a l
     → out ≡ map station_key nodes
-    → BySizes b m bytes cap room t (map station_key (take t.length nodes))
-    → BySizes b m bytes cap room t (take t.length out)
-tells_out b m bytes cap room t nodes out e h =
-    subst (λ (x : List ℕ). BySizes b m bytes cap room t x) (sym (ap (take t.length) e ∙ take-map station_key t.length nodes)) h
-
--- the same of memory whose sizes are known
-pub tells_over : (m : Method) (bytes : List ℕ) (t : Told) (a b l n rows room : ℕ) (written : List ℕ)
     → a ≡ rows → b ≡ rows → l ≡ 0 → n ≡ room
-    → BySizes (sizes_fit a b l) m bytes (record { rows = a; links = l }) n t written
-    → BySizes (sizes_fit rows rows 0) m bytes (record { rows = rows; links = 0 }) room t written
-tells_over m bytes t a b l n rows room written p q r s h =
-    let h1 = subst (λ (x : ℕ). BySizes (sizes_fit x b l) m bytes (record { rows = x; links = l }) n t written) p h in
-    let h2 = subst (λ (x : ℕ). BySizes (sizes_fit rows x l) m bytes (record { rows = rows; links = l }) n t written) q h1 in
-    let h3 = subst (λ (x : ℕ). BySizes (sizes_fit rows rows x) m bytes (record { rows = rows; links = x }) n t written) r h2 in
-    subst (λ (x : ℕ). BySizes (sizes_fit rows rows 0) m bytes (record { rows = rows; links = 0 }) x t written) s h3
+    → ByChart (checked bytes) m bytes rows room t (take t.length out)
+tells_chart m bytes read rows room t s nodes out a b l n i k e f g h p q r w =
+    let k0 = subst (λ (x : List ℕ). Tells m x s.capacity n t (map station_key (take t.length nodes))) i k in
+    let k1 = subst (λ (x : Held). Tells m bytes x.capacity n t (map station_key (take t.length nodes))) g k0 in
+    let k2 = subst (λ (x : List ℕ). Tells m bytes (record { rows = a; links = l }) n t x) (sym (ap (take t.length) h ∙ take-map station_key t.length nodes)) k1 in
+    let k3 = subst (λ (x : ℕ). Tells m bytes (record { rows = x; links = l }) n t (take t.length out)) p k2 in
+    let k4 = subst (λ (x : ℕ). Tells m bytes (record { rows = rows; links = x }) n t (take t.length out)) r k3 in
+    let k5 = subst (λ (x : ℕ). Tells m bytes (record { rows = rows; links = 0 }) x t (take t.length out)) w k4 in
+    let fit : sizes_fit rows rows 0 ≡ true = subst (λ (x : ℕ). sizes_fit rows rows x ≡ true) r (subst (λ (x : ℕ). sizes_fit rows x l ≡ true) q (subst (λ (x : ℕ). sizes_fit x b l ≡ true) p f)) in
+    rw e (inr (rw fit k5))

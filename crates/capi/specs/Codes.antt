@@ -1,10 +1,16 @@
--- The numbers by which a caller names a search, and a code without a route.
-use Rattle.std.specs.Prelude.{ℕ, cond, Some, None, Option, ◌==◌}
+-- The numbers by which a caller names a search, and the codes by which it is told of a failure.
+use Rattle.std.specs.Prelude.{ℕ, cond, Some, None, Ok, Err, Option, Result, ◌==◌}
+use Rattle.chart.specs.Refusal.{number_of}
+use Rattle.search.specs.Numbers.{seek_number, hand_out_number}
+use Rattle.planner.specs.Making.{make_number}
 use Rattle.report.specs.declared.method.Method.{Method}
 use Rattle.report.specs.declared.method.Method.TheVariants.{Dijkstra, Astar}
 use Rattle.report.specs.Names.{method_of}
 use Rattle.search.specs.Answers.{Method as Search}
 use Rattle.capi.specs.declared.told.Told.{Told}
+use Rattle.capi.specs.declared.route.Route.{Route}
+use Rattle.capi.specs.declared.route.Failure.{Failure}
+use Rattle.capi.specs.declared.route.Failure.TheVariants.{NoMethod, NoMemory, NoRoute, Chart, Planner, Seek, HandOut}
 
 -- 0 is dijkstra and 1 is astar
 abbrev pub method_numbered : ℕ → Option Method
@@ -16,3 +22,18 @@ search_of m = method_of m
 -- a code, and nothing else
 abbrev pub bare_code : ℕ → Told
 bare_code n = record { code = n; trims = 0; millis = 0; length = 0 }
+
+-- the code of each failure
+abbrev pub code_of : Failure → ℕ
+code_of NoRoute = 100
+code_of NoMethod = 101
+code_of NoMemory = 102
+code_of (Chart r) = number_of r
+code_of (Planner r) = make_number r
+code_of (Seek r) = seek_number r
+code_of (HandOut r) = hand_out_number r
+
+-- what is told of a search: its route, or a code
+abbrev pub told_of : Result Route Failure → Told
+told_of (Ok r) = record { code = 0; trims = r.cost.trims; millis = r.cost.millis; length = r.length }
+told_of (Err e) = bare_code (code_of e)

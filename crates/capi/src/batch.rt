@@ -1,82 +1,60 @@
 // A batch of searches by one planner.
-ghost use Rattle.std.specs.Prelude.{◌≡◌, map, length, take, IfOk};
+ghost use Rattle.std.specs.Prelude.{◌≡◌, map, length, take};
 ghost use Rattle.chart.specs.Checked.{checked};
-ghost use Rattle.chart.specs.Meaning.{guess_in};
-ghost use Rattle.chart.specs.Lawful.{meaning_in};
-ghost use Rattle.search.specs.Calls.{Call, sought};
-ghost use Rattle.planner.specs.Making.{sizes_fit};
-ghost use Rattle.planner.specs.Pending.{held_of, answer_of};
-ghost use Rattle.capi.specs.Codes.{search_of};
-ghost use Rattle.capi.specs.Tells.{station_key, trims_weight, trims_kind, Tells, BySizes, ByChart};
+ghost use Rattle.capi.specs.Codes.{told_of};
+ghost use Rattle.capi.specs.Tells.{station_key, Tells, ByChart};
 
-use crate::told;
-use crate::told::Told;
+use crate::route::{Failure, Route};
 use chart::Chart;
 use kinds::{Station, Trims};
-use planner::{Planner, Reached};
-use report::{Method, memory};
-use search::SeekRefusal;
-use std::alloc::{AllocError, Global};
-use store::links::Link;
-use store::rows::Row;
-use store::slots::Slot;
+use planner::{Lent, Planner};
+use report::Method;
+use report::memory::Memory;
+use std::alloc::Global;
 
-// Seeks from station 0.
-fn seek(
-    method: Method,
-    planner: &mut Planner<Station, Trims>,
-    chart: &Chart,
-) -> Result<Option<Trims>, SeekRefusal>
-    ensures { Call trims_kind (held_of station_key trims_weight planner.old) (sought (search_of method) (meaning_in chart.now.bytes.now) (guess_in chart.now.bytes.now) 0 (answer_of trims_weight result)) (held_of station_key trims_weight planner.new) }
-{
-    method.seek(planner, chart, Station { id: 0 })
-}
+// The station that every search begins at.
+const START: Station = Station { id: 0 };
 
-// Seeks once, and hands the route out.
-fn seek_once(
+// A search over a chart, and how often it runs.
+#[derive(Clone, Copy)]
+struct Batch<'a> {
     method: Method,
-    planner: &mut Planner<Station, Trims>,
-    chart: &Chart,
-    nodes: &mut [Station],
-) -> Told
-    ensures tells { Tells method chart.now.bytes.now (held_of station_key trims_weight planner.old).capacity (length nodes.old) result (map station_key (take result.length nodes.new)) }
-    ensures memory { (held_of station_key trims_weight planner.new).capacity ≡ (held_of station_key trims_weight planner.old).capacity }
-{
-    match seek(method, planner, chart) {
-        Err(refusal) => Told::bare(refusal.number() as u32),
-        Ok(answer) => match answer {
-            None => Told::bare(told::NO_ROUTE),
-            Some(cost) => match planner.hand_out(nodes) {
-                Err(refusal) => Told::bare(refusal.number() as u32),
-                Ok(given) => match given {
-                    None => Told::bare(told::NO_ROUTE),
-                    Some(length) => Told {
-                        code: 0,
-                        trims: cost.trims,
-                        millis: cost.millis,
-                        length,
-                    },
-                },
-            },
-        },
-    }
-}
-
-// Seeks so many times, at least once, and tells the last answer.
-fn seek_often(
-    method: Method,
-    planner: &mut Planner<Station, Trims>,
-    chart: &Chart,
+    chart: Chart<'a>,
     times: u32,
-    nodes: &mut [Station],
-) -> Told
-    ensures { Tells method chart.now.bytes.now (held_of station_key trims_weight planner.old).capacity (length nodes.old) result (map station_key (take result.length nodes.new)) }
-{
-    let mut told = seek_once(method, planner, chart, nodes);
-    for _ in 1..times {
-        told = seek_once(method, planner, chart, nodes);
+}
+
+impl<'a> Batch<'a> {
+    // Seeks once, and hands the route out.
+    fn once(
+        &self,
+        planner: &mut Planner<Station, Trims>,
+        nodes: &mut [Station],
+    ) -> Result<Route, Failure>
+        ensures tells { Tells self.now.method self.now.chart.bytes.now planner.old.capacity (length nodes.old) (told_of result) (map station_key (take (told_of result).length nodes.new)) }
+        ensures memory { planner.new.capacity ≡ planner.old.capacity }
+    {
+        let cost = self
+            .method
+            .seek(planner, &self.chart, START)?
+            .ok_or(Failure::NoRoute)?;
+        let length = planner.hand_out(nodes)?.ok_or(Failure::NoRoute)?;
+        Ok(Route { cost, length })
     }
-    told
+
+    // Seeks so many times, at least once, and answers what the last came to.
+    fn often(
+        &self,
+        planner: &mut Planner<Station, Trims>,
+        nodes: &mut [Station],
+    ) -> Result<Route, Failure>
+        ensures { Tells self.now.method self.now.chart.bytes.now planner.old.capacity (length nodes.old) (told_of result) (map station_key (take (told_of result).length nodes.new)) }
+    {
+        let mut last = self.once(planner, nodes);
+        for _ in 1..self.times {
+            last = self.once(planner, nodes);
+        }
+        last
+    }
 }
 
 // Copies the numbers of the stations.
@@ -84,95 +62,40 @@ fn copy_out(nodes: &[Station], out: &mut [u32])
     requires { length nodes.now ≡ length out.old }
     ensures { out.new ≡ map station_key nodes.now }
 {
-    let n = out.len();
-    for i in 0..n {
-        out[i] = nodes[i].id;
+    // by rank, since nothing is known of what is written through a zip
+    for (rank, place) in out.iter_mut().enumerate() {
+        *place = nodes[rank].id;
     }
 }
 
-// The same by a planner over this memory, where one can be made.
-fn search_with(
-    method: Method,
-    chart: &Chart,
-    times: u32,
-    rows: &mut [Row<Station, Reached<Trims>>],
-    slots: &mut [Slot<Trims>],
-    links: &mut [Link],
-    nodes: &mut [Station],
-) -> Told
-    ensures { BySizes (sizes_fit (length rows.old) (length slots.old) (length links.old)) method chart.now.bytes.now (record { rows = length rows.old; links = length links.old }) (length nodes.old) result (map station_key (take result.length nodes.new)) }
-{
-    match planner::check(rows.len(), slots.len(), links.len()) {
-        Err(refusal) => Told::bare(refusal.number() as u32),
-        Ok(_) => {
-            let mut planner = Planner::make(rows, slots, links);
-            seek_often(method, &mut planner, chart, times, nodes)
-        }
-    }
-}
-
-// The same, with the route's stations as numbers.
-fn search_out(
-    method: Method,
-    chart: &Chart,
-    times: u32,
-    rows: &mut [Row<Station, Reached<Trims>>],
-    slots: &mut [Slot<Trims>],
-    links: &mut [Link],
-    nodes: &mut [Station],
-    out: &mut [u32],
-) -> Told
-    requires { length nodes.old ≡ length out.old }
-    ensures { BySizes (sizes_fit (length rows.old) (length slots.old) (length links.old)) method chart.now.bytes.now (record { rows = length rows.old; links = length links.old }) (length nodes.old) result (take result.length out.new) }
-{
-    let told = search_with(method, chart, times, rows, slots, links, nodes);
-    copy_out(nodes, out);
-    told
-}
-
-// The same over memory of its own.
-fn search_over(
-    heap: Global,
-    method: Method,
-    chart: &Chart,
-    rows: usize,
-    times: u32,
-    out: &mut [u32],
-) -> Result<Told, AllocError>
-    ensures { IfOk result (λ t. BySizes (sizes_fit rows rows 0) method chart.now.bytes.now (record { rows = rows; links = 0 }) (length out.old) t (take t.length out.new)) }
-{
-    let mut slots = memory::slots(heap, rows)?;
-    let mut nodes = memory::nodes(heap, out.len())?;
-    let mut rows = memory::rows(heap, rows)?;
-    let mut links = memory::links(heap, 0)?;
-    Ok(search_out(
-        method,
-        chart,
-        times,
-        rows.as_mut_slice(),
-        slots.as_mut_slice(),
-        links.as_mut_slice(),
-        nodes.as_mut_slice(),
-        out,
-    ))
-}
-
-// The same over bytes.
-pub(crate) fn search_in(
+// Runs a batch over the bytes, where they are a chart, by a planner over memory of its own; the stations of the last route
+// go out as numbers.
+pub(crate) fn search(
     heap: Global,
     method: Method,
     bytes: &[u8],
     rows: u32,
     times: u32,
     out: &mut [u32],
-) -> Told
-    ensures { ByChart (checked bytes.now) method bytes.now rows (length out.old) result (take result.length out.new) }
+) -> Result<Route, Failure>
+    ensures { ByChart (checked bytes.now) method bytes.now rows (length out.old) (told_of result) (take (told_of result).length out.new) }
 {
-    if let Err(refusal) = chart::check(bytes) {
-        return Told::bare(refusal.number() as u32);
-    }
-    match search_over(heap, method, &Chart::make(bytes), rows as usize, times, out) {
-        Ok(told) => told,
-        Err(_) => Told::bare(told::NO_MEMORY),
-    }
+    chart::check(bytes)?;
+    let batch = Batch {
+        method,
+        chart: Chart::make(bytes),
+        times,
+    };
+    let mut memory = Memory::new(heap, START, rows as usize, 0)?;
+    // the caller's room, not the rows, limits the route
+    memory.nodes.resize(out.len(), START)?;
+    let mut planner = Planner::new(Lent {
+        rows: memory.rows.as_mut_slice(),
+        slots: memory.slots.as_mut_slice(),
+        links: memory.links.as_mut_slice(),
+    })?;
+    let nodes = memory.nodes.as_mut_slice();
+    let last = batch.often(&mut planner, nodes);
+    copy_out(nodes, out);
+    last
 }

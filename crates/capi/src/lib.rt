@@ -6,24 +6,24 @@ ghost use Rattle.capi.specs.Codes.{method_numbered};
 ghost use Rattle.capi.specs.Tells.{Batch};
 
 mod batch;
+mod route;
 pub mod told;
 
-use batch::search_in;
+use batch::search;
 use report::Method;
+use route::Failure;
 use std::alloc::Global;
 pub use told::Told;
 
-// The search of a number.
+// The search of a number: a caller in C names it so.
 fn numbered(method: u32) -> Option<Method>
     ensures { result ≡ method_numbered method }
 {
-    if method == 0 {
-        return Some(Method::Dijkstra);
+    match method {
+        0 => Some(Method::Dijkstra),
+        1 => Some(Method::Astar),
+        _ => None,
     }
-    if method == 1 {
-        return Some(Method::Astar);
-    }
-    None
 }
 
 // Runs a search (0 dijkstra, 1 astar) over the chart that stands in the bytes, from station 0, by one planner of so many
@@ -41,7 +41,7 @@ pub fn capi_seek(
     ensures { Batch method bytes.now rows (length out.old) result (take result.length out.new) }
 {
     match numbered(method) {
-        None => Told::bare(told::NO_METHOD),
-        Some(method) => search_in(heap, method, bytes, rows, times, out),
+        None => Told::from(Err(Failure::NoMethod)),
+        Some(method) => Told::from(search(heap, method, bytes, rows, times, out)),
     }
 }

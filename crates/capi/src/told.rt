@@ -2,6 +2,8 @@
 ghost use Rattle.std.specs.Prelude.{◌≡◌};
 ghost use Rattle.capi.specs.Codes.{bare_code};
 
+use crate::route::{Failure, Route};
+
 // The code of a search that found no route.
 pub const NO_ROUTE: u32 = 100;
 
@@ -12,7 +14,7 @@ pub const NO_METHOD: u32 = 101;
 pub const NO_MEMORY: u32 = 102;
 
 // A code, and the cost and the number of stations of a route. The code is 0 where there is a route, the number of a
-// refusal, or one of those above.
+// refusal, or one of those above: a number, since a caller in C reads it.
 #[repr(C)]
 #[derive(Clone, Copy)]
 pub struct Told {
@@ -32,6 +34,25 @@ impl Told {
             trims: 0,
             millis: 0,
             length: 0,
+        }
+    }
+}
+
+// What is told of a search: its route, or a code.
+impl From<Result<Route, Failure>> for Told {
+    ghost use Rattle.capi.specs.Codes.{told_of};
+
+    ghost from_gives = { λ answer told. told ≡ told_of answer };
+
+    fn from(answer: Result<Route, Failure>) -> Told {
+        match answer {
+            Ok(route) => Told {
+                code: 0,
+                trims: route.cost.trims,
+                millis: route.cost.millis,
+                length: route.length,
+            },
+            Err(failure) => Told::bare(u32::from(failure)),
         }
     }
 }

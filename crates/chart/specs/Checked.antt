@@ -1,21 +1,21 @@
 -- What checking the bytes of a chart answers, for every string of bytes.
-use Rattle.std.specs.Prelude.{ℕ, zero, suc, ◌+◌, Bool, cond, List, Some, None, Ok, Err, Option, Result}
+use Rattle.std.specs.Prelude.{ℕ, Bool, cond, not, List, Some, None, Ok, Err, Option, Result}
+use Rattle.std.specs.List.{find, range_with_len}
 use Rattle.chart.specs.declared.refusal.ChartRefusal.{ChartRefusal}
 use Rattle.chart.specs.declared.refusal.ChartRefusal.TheVariants.{Header, Station, Road}
 use Rattle.chart.specs.Format.{station_count, road_count}
 use Rattle.chart.specs.Rules.{header_keeps, station_keeps, road_keeps}
 
--- the first number that breaks a rule, of so many numbers from one on
-unfoldable pub first_breaking : (ℕ → Bool) → (start count : ℕ) → Option ℕ
-first_breaking keeps start zero = None
-first_breaking keeps start (suc count) = cond (keeps start) (first_breaking keeps (start + 1) count) (Some start)
+-- the first number that breaks a rule, of those below a count
+abbrev pub first_breaking : (ℕ → Bool) → (count : ℕ) → Option ℕ
+first_breaking keeps count = find (λ n. not (keeps n)) (range_with_len 0 count)
 
 -- the first station and the first road that break their rules
 abbrev pub bad_station : List ℕ → Option ℕ
-bad_station bytes = first_breaking (station_keeps bytes) 0 (station_count bytes)
+bad_station bytes = first_breaking (station_keeps bytes) (station_count bytes)
 
 abbrev pub bad_road : List ℕ → Option ℕ
-bad_road bytes = first_breaking (road_keeps bytes) 0 (road_count bytes)
+bad_road bytes = first_breaking (road_keeps bytes) (road_count bytes)
 
 -- by the first road that breaks its rule
 abbrev pub by_roads : Option ℕ → Result (Unit {0}) ChartRefusal

@@ -1,13 +1,14 @@
 -- What the check answers is so, and bytes that it passes keep every rule.
-use Rattle.std.specs.Prelude.{◌≡◌, ℕ, zero, suc, ◌+◌, ◌<◌, ◌≤◌, Bool, true, false, cond, List, Some, None, Ok, Err, Option, Result, refl}
-use Rattle.std.proofs.Common.{sym, subst, arith}
-use Rattle.std.proofs.Math.Decide.{ℕ_discrete}
+use Rattle.std.specs.Prelude.{◌≡◌, ℕ, zero, suc, ◌+◌, ◌<◌, ◌≤◌, Bool, true, false, cond, not, List, Some, None, Ok, Err, Option, Result, refl}
+use Rattle.std.specs.List.{find, range_with_len}
+use Rattle.std.proofs.Common.{sym, arith}
 use Rattle.std.proofs.lemmas.Bool.{true≢false}
+use Rattle.std.proofs.lemmas.Grind.{common_steps}
 use Rattle.chart.specs.declared.refusal.ChartRefusal.{ChartRefusal}
 use Rattle.chart.specs.declared.refusal.ChartRefusal.TheVariants.{Header}
 use Rattle.chart.specs.Format.{station_count, road_count}
 use Rattle.chart.specs.Rules.{header_keeps, station_keeps, road_keeps}
-use Rattle.chart.specs.Checked.{first_breaking, bad_station, bad_road, by_stations, checked}
+use Rattle.chart.specs.Checked.{bad_station, bad_road, by_stations, checked}
 use Rattle.chart.specs.Verdict.{First, Keeps, Says}
 use Rattle.chart.specs.Sound.{passed, sound}
 
@@ -17,22 +18,16 @@ Found keeps start count (Some n) =
     (start ≤ n) × (n < start + count) × (keeps n ≡ false) × ((j : ℕ) → start ≤ j → j < n → keeps j ≡ true)
 Found keeps start count None = (j : ℕ) → start ≤ j → j < start + count → keeps j ≡ true
 
--- what holds at a number and of those behind it holds from it on
-from_here : (keeps : ℕ → Bool) (start j : ℕ) → keeps start ≡ true → start ≤ j → (start + 1 ≤ j → keeps j ≡ true) → keeps j ≡ true
-from_here keeps start j e a behind =
-    elim (ℕ_discrete start j) [ yes p ↦ subst (λ (i : ℕ). keeps i ≡ true) p e | no n ↦ behind (omega arith) ]
-
-one_more : (keeps : ℕ → Bool) (start count : ℕ) (t : Bool) → keeps start ≡ t → (o : Option ℕ) → Found keeps (start + 1) count o → Found keeps start (suc count) (cond t o (Some start))
-one_more keeps start count true e None f = λ j a b. from_here keeps start j e a (λ c. f j c (omega arith))
+one_more : (keeps : ℕ → Bool) (start count : ℕ) (t : Bool) → keeps start ≡ t → (o : Option ℕ) → Found keeps (start + 1) count o → Found keeps start (suc count) (cond (not t) (Some start) o)
+one_more keeps start count true e None f = λ j a b. let g = f j in grind (arith, common_steps)
 one_more keeps start count true e (Some n) f =
-    (omega (arith, f.0), omega (arith, f.1), f.2, λ j a b. from_here keeps start j e a (λ c. f.3 j c b))
+    (omega (arith, f.0), omega (arith, f.1), f.2, λ j a b. let g = f.3 j in grind (arith, common_steps))
 one_more keeps start count false e o f = (omega arith, omega arith, e, λ j a b. absurd (omega arith))
 
-finds : (keeps : ℕ → Bool) (start count : ℕ) → Found keeps start count (first_breaking keeps start count)
-unfolding first_breaking
+finds : (keeps : ℕ → Bool) (start count : ℕ) → Found keeps start count (find (λ n. not (keeps n)) (range_with_len start count))
 finds keeps start zero = λ j a b. absurd (omega arith)
 finds keeps start (suc count) =
-    one_more keeps start count (keeps start) refl (first_breaking keeps (start + 1) count) (finds keeps (start + 1) count)
+    one_more keeps start count (keeps start) refl (find (λ n. not (keeps n)) (range_with_len (start + 1) count)) (finds keeps (start + 1) count)
 
 -- from 0 on, that is the first of all
 first_of : (keeps : ℕ → Bool) (count n : ℕ) → Found keeps 0 count (Some n) → First keeps count n
@@ -50,7 +45,7 @@ says_by bytes true None None e f g =
 -- what the check answers is so
 pub says : (bytes : List ℕ) → Says bytes (checked bytes)
 unfolding checked
-says bytes = says_by bytes (header_keeps bytes) (bad_station bytes) (bad_road bytes) refl (finds _ _ _) (finds _ _ _)
+says bytes = says_by bytes (header_keeps bytes) (bad_station bytes) (bad_road bytes) refl (finds (station_keeps bytes) 0 (station_count bytes)) (finds (road_keeps bytes) 0 (road_count bytes))
 
 kept_by : (bytes : List ℕ) (r : Result (Unit {0}) ChartRefusal) → passed r ≡ true → Says bytes r → Keeps bytes
 kept_by bytes (Ok _) e k = k

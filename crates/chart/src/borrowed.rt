@@ -1,10 +1,96 @@
-// The type of charts, with what the check has shown of its bytes.
+// Charts, and what stands in their two tables.
 ghost use Rattle.std.specs.Prelude.{◌≡◌, true};
 ghost use Rattle.chart.specs.Sound.{sound};
+
+use crate::checking::check;
+use crate::refusal::ChartRefusal;
+use crate::words::word;
+use kinds::Trims;
+use std::ops::Range;
 
 // A chart: bytes that the check passes, borrowed and never copied.
 #[derive(Clone, Copy)]
 pub struct Chart<'a> {
     pub(crate) bytes: &'a [u8],
     ghost ok: { sound bytes.now ≡ true },
+}
+
+impl<'a> Chart<'a> {
+    ghost use Rattle.std.specs.Prelude.{◌≡◌, ◌+◌, ◌*◌, ◌<◌, ◌≤◌, cond, length, Some, None, Ok, IfSome};
+    ghost use Rattle.chart.specs.Checked.{checked};
+    ghost use Rattle.chart.specs.Words.{word_at};
+    ghost use Rattle.chart.specs.Format.{station_count, road_count, first_road};
+    ghost use Rattle.chart.specs.Meaning.{held_in, roads_end};
+
+    // The chart that stands in these bytes, which the check has passed.
+    pub fn make(bytes: &'a [u8]) -> Chart<'a>
+        requires { checked bytes.now ≡ Ok tt }
+        ensures { result.bytes.now ≡ bytes.now }
+    {
+        Chart { bytes }
+    }
+
+    // Where the record of a station begins, if there is such a station.
+    #[tactic(auto, using(crate::specs::Lawful::sizes))]
+    pub(crate) fn station_at(&self, station: u32) -> Option<usize>
+        ensures is { result ≡ cond (held_in self.now.bytes.now station) (Some (16 + 16 * station)) None }
+        ensures within { IfSome result (λ at. at + 16 ≤ length self.now.bytes.now) }
+    {
+        (station < word(self.bytes, 0)).then_some(16 + 16 * station as usize)
+    }
+
+    // Where the record of a road begins.
+    #[tactic(auto, using(crate::specs::Lawful::sizes))]
+    pub(crate) fn road_at(&self, road: u32) -> usize
+        requires { road < road_count self.now.bytes.now }
+        ensures is { result ≡ 16 + 16 * station_count self.now.bytes.now + 12 * road }
+        ensures within { result + 12 ≤ length self.now.bytes.now }
+    {
+        16 + 16 * word(self.bytes, 0) as usize + 12 * road as usize
+    }
+
+    // The cost that stands in the eight bytes from a place on: trims, then milliseconds.
+    pub(crate) fn cost_at(&self, at: usize) -> Trims
+        requires { at + 8 ≤ length self.now.bytes.now }
+        ensures trims { result.trims ≡ word_at self.now.bytes.now at }
+        ensures millis { result.millis ≡ word_at self.now.bytes.now (at + 4) }
+    {
+        Trims {
+            trims: word(self.bytes, at),
+            millis: word(self.bytes, at + 4),
+        }
+    }
+
+    // The roads of a station in the road table; none where there is no such station.
+    #[tactic(auto, using(crate::specs::Lawful::sizes, crate::specs::Lawful::ends_within))]
+    pub(crate) fn roads(&self, station: u32) -> Range<u32>
+        ensures start { result.start ≡ cond (held_in self.now.bytes.now station) (first_road self.now.bytes.now station) 0 }
+        ensures end { result.end ≡ cond (held_in self.now.bytes.now station) (roads_end self.now.bytes.now station) 0 }
+        ensures order { result.start ≤ result.end }
+        ensures within { result.end ≤ road_count self.now.bytes.now }
+    {
+        let Some(at) = self.station_at(station) else {
+            return 0..0;
+        };
+        let end = match self.station_at(station + 1) {
+            Some(next) => word(self.bytes, next),
+            None => word(self.bytes, 4),
+        };
+        word(self.bytes, at)..end
+    }
+}
+
+impl<'a> TryFrom<&'a [u8]> for Chart<'a> {
+    ghost use Rattle.std.specs.Prelude.{◌≡◌, Ok, Err, MatchResult};
+    ghost use Rattle.chart.specs.Checked.{checked};
+
+    type Error = ChartRefusal;
+
+    ghost try_from_gives = { λ bytes r. MatchResult r (λ chart. (checked bytes.now ≡ Ok tt) × (chart.bytes.now ≡ bytes.now)) (λ refusal. checked bytes.now ≡ Err refusal) };
+
+    // The chart that stands in these bytes, if the check passes them.
+    fn try_from(bytes: &'a [u8]) -> Result<Chart<'a>, ChartRefusal> {
+        check(bytes)?;
+        Ok(Chart::make(bytes))
+    }
 }

@@ -17,8 +17,7 @@ fn header_keeps(bytes: &[u8]) -> bool
     }
     let stations = word(bytes, 0) as usize;
     let roads = word(bytes, 4) as usize;
-    1 <= stations
-        && stations <= 1024
+    (1..=1024).contains(&stations)
         && roads <= 4000
         && word(bytes, 8) == 16
         && word(bytes, 12) as usize == 16 + 16 * stations
@@ -29,7 +28,7 @@ fn header_keeps(bytes: &[u8]) -> bool
 fn last_keeps(last: u32) -> bool
     ensures { result ≡ last_keeps last }
 {
-    last < 64 || (256 <= last && last < 320)
+    last < 64 || (256..320).contains(&last)
 }
 
 // Whether a station's first road is right: 0 at station 0, at any other not before that of the station before and not
@@ -43,7 +42,7 @@ fn first_keeps(bytes: &[u8], station: u32) -> bool
     if station == 0 {
         return first == 0;
     }
-    word(bytes, at - 16) <= first && first <= word(bytes, 4)
+    (word(bytes, at - 16)..=word(bytes, 4)).contains(&first)
 }
 
 // Whether a station keeps its rule.
@@ -68,13 +67,7 @@ fn bad_station(bytes: &[u8]) -> Option<u32>
     requires { header_keeps bytes.now ≡ true }
     ensures { result ≡ bad_station bytes.now }
 {
-    let stations = word(bytes, 0);
-    for station in 0..stations {
-        if !station_keeps(bytes, station) {
-            return Some(station);
-        }
-    }
-    None
+    (0..word(bytes, 0)).find(|&station| !station_keeps(bytes, station))
 }
 
 // The first road that breaks its rule.
@@ -82,16 +75,11 @@ fn bad_road(bytes: &[u8]) -> Option<u32>
     requires { header_keeps bytes.now ≡ true }
     ensures { result ≡ bad_road bytes.now }
 {
-    let roads = word(bytes, 4);
-    for road in 0..roads {
-        if !road_keeps(bytes, road) {
-            return Some(road);
-        }
-    }
-    None
+    (0..word(bytes, 4)).find(|&road| !road_keeps(bytes, road))
 }
 
 // Checks that the bytes are a chart: the header and the length first, then each station, then each road.
+#[tactic(auto, unfolding(crate::specs::Checked::checked))]
 pub fn check(bytes: &[u8]) -> Result<(), ChartRefusal>
     ensures is { result ≡ checked bytes.now }
     ensures says { Says bytes.now result }

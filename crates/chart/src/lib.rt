@@ -3,10 +3,8 @@
 
 pub mod borrowed;
 pub mod checking;
-pub mod making;
 pub mod questions;
 pub mod refusal;
-mod tables;
 mod words;
 
 pub use borrowed::Chart;

@@ -1,7 +1,6 @@
 // What a chart answers as a graph.
-ghost use Rattle.std.specs.Prelude.{ℕ};
-ghost use Rattle.chart.specs.Meaning.{held_in, zone_in, count_in, road_in, guess_in, goal_in};
-ghost use Rattle.chart.specs.Lawful.{chart_lawful};
+ghost use Rattle.chart.specs.Meaning.{guess_in};
+ghost use Rattle.chart.specs.Lawful.{meaning_in, chart_lawful};
 
 use crate::borrowed::Chart;
 use crate::words::word;
@@ -13,54 +12,51 @@ impl<'a> Graph for Chart<'a> {
 
     type Cost = Trims;
 
-    ghost holds = { λ c. held_in c.bytes.now };
-
-    ghost zones = { λ c. zone_in c.bytes.now };
-
-    ghost counts = { λ c. count_in c.bytes.now };
-
-    ghost roads = { λ c. road_in c.bytes.now };
+    ghost means = { λ c. meaning_in c.bytes.now };
 
     ghost guesses = { λ c. guess_in c.bytes.now };
-
-    ghost goals = { λ c. goal_in c.bytes.now };
 
     ghost lawful = { λ c. chart_lawful c.bytes.now c.ok };
 
     fn held(&self, node: &Station) -> bool {
-        self.holds(node.id)
+        self.station_at(node.id).is_some()
     }
 
     fn zone(&self, node: &Station) -> u8 {
-        if !self.holds(node.id) {
-            return 0;
+        match self.station_at(node.id) {
+            Some(at) => (word(self.bytes, at + 12) % 256) as u8,
+            None => 0,
         }
-        (word(self.bytes, self.station_at(node.id) + 12) % 256) as u8
     }
 
+    #[tactic(auto, using(crate::specs::Lawful::sizes))]
     fn road_count(&self, node: &Station) -> u16 {
-        self.count(node.id)
+        let roads = self.roads(node.id);
+        (roads.end - roads.start) as u16
     }
 
+    #[tactic(auto, using(crate::specs::Lawful::sizes))]
     fn road(&self, node: &Station, rank: u16) -> Result<Option<(Station, Trims)>, Fault> {
-        if rank >= self.count(node.id) {
+        if rank >= self.road_count(node) {
             return Ok(None);
         }
-        let at = self.road_at(self.first_road(node.id) + rank as u32);
+        let at = self.road_at(self.roads(node.id).start + rank as u32);
         let target = Station {
             id: word(self.bytes, at),
         };
         Ok(Some((target, self.cost_at(at + 4))))
     }
 
+    // A match: over a closure that asks the chart the proof does not close.
     fn guess(&self, node: &Station) -> Trims {
-        if !self.holds(node.id) {
-            return Trims::zero();
+        match self.station_at(node.id) {
+            Some(at) => self.cost_at(at + 4),
+            None => Trims::zero(),
         }
-        self.cost_at(self.station_at(node.id) + 4)
     }
 
     fn goal(&self, node: &Station) -> bool {
-        self.holds(node.id) && word(self.bytes, self.station_at(node.id) + 12) >= 256
+        self.station_at(node.id)
+            .is_some_and(|at| word(self.bytes, at + 12) >= 256)
     }
 }

@@ -1,6 +1,5 @@
 // Why bytes are no chart.
 ghost use Rattle.std.specs.Prelude.{◌≡◌};
-ghost use Rattle.chart.specs.Refusal.{number_of};
 
 // What is wrong with the bytes: the first thing found, the header before the stations, the stations before the roads.
 #[derive(Clone, Copy, PartialEq, Eq, Debug)]
@@ -13,12 +12,14 @@ pub enum ChartRefusal {
     Road { road: u32 },
 }
 
-impl ChartRefusal {
-    // The number under which the refusal is reported: 5 for the header and the length, 6 for a station or a road.
-    pub fn number(&self) -> u8
-        ensures { result ≡ number_of self.now }
-    {
-        match self {
+// The number under which the refusal is reported: 5 for the header and the length, 6 for a station or a road.
+impl From<ChartRefusal> for u8 {
+    ghost use Rattle.chart.specs.Refusal.{number_of};
+
+    ghost from_gives = { λ refusal n. n ≡ number_of refusal };
+
+    fn from(refusal: ChartRefusal) -> u8 {
+        match refusal {
             ChartRefusal::Header => 5,
             ChartRefusal::Station { .. } => 6,
             ChartRefusal::Road { .. } => 6,

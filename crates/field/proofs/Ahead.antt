@@ -1,11 +1,11 @@
 -- The guess of a field is true: every step changes one of the two distances by one.
-use Rattle.std.proofs.Common.{◌≡◌, ℕ, ◌+◌, ◌*◌, ◌<◌, ◌≤◌, Bool, true, false, cond, List, Ok, sym, refl, ◌∙◌, subst, le_refl, add-mul, one-mul, zero-mul, arith}
-use Rattle.std.proofs.lemmas.Bool.{and_parts, eqb-true, both_ways}
+use Rattle.std.proofs.Common.{◌≡◌, ℕ, ◌+◌, ◌*◌, ◌<◌, ◌≤◌, true, List, Ok, subst, le_refl, add-mul, one-mul, arith}
+use Rattle.std.proofs.lemmas.Grind.{common_steps}
 use Rattle.std.proofs.lemmas.Nat.{mul-le}
 use Rattle.graph.specs.Routes.{Weighs, ends, goes, True}
 use Rattle.field.specs.declared.layout.Layout.{Layout}
 use Rattle.field.specs.Cells.{target_at, distance, guess_at}
-use Rattle.field.specs.Means.{column_of, row_of, field_held, field_meaning, field_guess}
+use Rattle.field.specs.Means.{column_of, row_of, field_meaning, field_guess}
 use Rattle.field.specs.Checking.{verdict}
 use Rattle.field.specs.Laws.{Neighbour, neighbour, held_column, column_of_key, row_of_key, few_columns}
 use Rattle.field.proofs.Passed.{passed}
@@ -24,16 +24,7 @@ one_apart d e d' e' a b h k n = omega arith
 
 -- nothing is ahead at the target
 at_target : (l : Layout) (column row : ℕ) → target_at l column row ≡ true → guess_at l column row ≤ 0
-at_target l column row h =
-    let p = and_parts _ _ h in
-    let c : column ≡ l.target.column = eqb-true _ _ p.0 in
-    let r : row ≡ l.target.row = eqb-true _ _ p.1 in
-    let z : distance column l.target.column + distance row l.target.row ≡ 0 = omega arith in
-    rw (z, zero-mul l.step) (le_refl 0)
-
-held_only : {A : Type 0} (b : Bool) (x y : A) → b ≡ true → cond b x y ≡ x
-held_only true x y h = refl
-held_only false x y h = absurd (both_ways false refl h)
+at_target l column row h = grind (arith, common_steps)
 
 module _ (l : Layout) (map : List ℕ) (few : l.columns ≤ 256) where
   -- the guess at a cell and at a neighbour differ by one step at most
@@ -48,9 +39,9 @@ module _ (l : Layout) (map : List ℕ) (few : l.columns ≤ 256) where
 
   least : {k w : ℕ} {ks : List ℕ} → Weighs (field_meaning l map) k ks w → guess_at l (column_of k) (row_of k) ≤ w
   least (ends {k} h g) =
-      at_target l (column_of k) (row_of k) (sym (held_only (field_held l map k) _ _ h) ∙ g)
+      at_target l (column_of k) (row_of k) (grind (arith, common_steps))
   least (goes {k} {to} {w} {v} h s r) =
-      nearer (column_of k) (row_of k) to w v (neighbour l map (column_of k) (row_of k) s.rank to w (sym (held_only (field_held l map k) _ _ h) ∙ s.is)) (least r)
+      nearer (column_of k) (row_of k) to w v (neighbour l map (column_of k) (row_of k) s.rank to w (grind (arith, common_steps))) (least r)
 
   pub guess_true : True (field_meaning l map) (field_guess l map)
   guess_true k ks w h r = rw h (least r)

@@ -1,3 +1,2 @@
-pub mod Range
 pub mod Passed
 pub mod Ahead

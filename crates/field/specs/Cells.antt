@@ -1,5 +1,5 @@
 -- What a field says of each cell, by column and row.
-use Rattle.std.specs.Prelude.{ℕ, ◌+◌, ◌-◌, ◌*◌, Bool, cond, not, ◌&&◌, List, ◌==◌, nat_lt, slice_index}
+use Rattle.std.specs.Prelude.{ℕ, ◌+◌, ◌-◌, ◌*◌, Bool, cond, not, ◌&&◌, List, Some, None, Option, ◌==◌, nat_lt, slice_index}
 use Rattle.kinds.specs.Cell.{cell_key}
 use Rattle.graph.specs.Meaning.{Road, opened, closed}
 use Rattle.field.specs.declared.layout.Layout.{Layout}
@@ -20,13 +20,22 @@ held_at l map column row = inside l column row && not (byte_at l map column row 
 abbrev pub step_to : Layout → List ℕ → (column row : ℕ) → Road
 step_to l map column row = cond (held_at l map column row) (opened (cell_key column row) l.step) closed
 
--- the roads of a held cell by rank: 0 up, 1 right, 2 down, 3 left
+-- the cell beside a cell, by rank: 0 up, 1 right, 2 down, 3 left
+abbrev pub beside : (column row rank : ℕ) → Option (ℕ × ℕ)
+beside column row rank =
+    cond (rank == 0) (cond (row == 0) None (Some (column, row - 1)))
+    (cond (rank == 1) (Some (column + 1, row))
+    (cond (rank == 2) (Some (column, row + 1))
+    (cond (rank == 3) (cond (column == 0) None (Some (column - 1, row))) None)))
+
+-- the road to a cell, if there is one
+abbrev pub to_cell : Layout → List ℕ → Option (ℕ × ℕ) → Road
+to_cell l map None = closed
+to_cell l map (Some cell) = step_to l map cell.0 cell.1
+
+-- the roads of a held cell, to the cells beside it
 abbrev pub road_at : Layout → List ℕ → (column row rank : ℕ) → Road
-road_at l map column row rank =
-    cond (rank == 0) (cond (row == 0) closed (step_to l map column (row - 1)))
-    (cond (rank == 1) (step_to l map (column + 1) row)
-    (cond (rank == 2) (step_to l map column (row + 1))
-    (cond (rank == 3) (cond (column == 0) closed (step_to l map (column - 1) row)) closed)))
+road_at l map column row rank = to_cell l map (beside column row rank)
 
 -- whether a cell is the target
 abbrev pub target_at : Layout → (column row : ℕ) → Bool

@@ -1,13 +1,15 @@
 // A field as a graph: its nodes are cells and its costs milliseconds.
-ghost use Rattle.std.specs.Prelude.{◌≡◌, ℕ, ◌+◌, ◌*◌, ◌<◌, ◌≤◌, Bool, true, length, Ok, slice_index};
+ghost use Rattle.std.specs.Prelude.{◌≡◌, ℕ, ◌*◌, true, cond, length, Some, None, Ok, slice_index, option_map};
 ghost use Rattle.graph.specs.Answers.{road_of};
+ghost use Rattle.graph.specs.Meaning.{closed};
 ghost use Rattle.graph.specs.Routes.{True};
 ghost use Rattle.kinds.specs.Cell.{cell_key};
 ghost use Rattle.field.specs.Checking.{in_range, is_cell, verdict};
-ghost use Rattle.field.specs.Cells.{byte_at, inside, held_at, step_to, road_at, guess_at};
+ghost use Rattle.field.specs.Cells.{byte_at, inside, held_at, beside, road_at, guess_at};
 ghost use Rattle.field.specs.Means.{field_meaning, field_guess};
 ghost use Rattle.field.specs.Laws.{field_lawful, few_columns};
 
+use crate::checking::SOLID;
 use crate::layout::Layout;
 use graph::{Fault, Graph};
 use kinds::{Cell, CostKind, Millis};
@@ -33,73 +35,53 @@ impl<'a> Field<'a> {
         Field { layout, map }
     }
 
-    // Whether a cell is inside.
-    fn inside(&self, column: u16, row: u16) -> bool
-        ensures { result ≡ inside self.now.layout column row }
+    // The zone of a cell that is held: of one inside that is not solid.
+    fn zone_at(&self, cell: Cell) -> Option<u8>
+        ensures { result ≡ cond (held_at self.now.layout self.now.map.now cell.column cell.row) (Some (byte_at self.now.layout self.now.map.now cell.column cell.row)) None }
     {
-        column < self.layout.columns && row < self.layout.rows
-    }
-
-    // The map's byte for a cell inside.
-    fn byte(&self, column: u16, row: u16) -> u8
-        requires { inside self.now.layout column row ≡ true }
-        ensures { result ≡ byte_at self.now.layout self.now.map.now column row }
-    {
-        self.map[row as usize * self.layout.columns as usize + column as usize]
-    }
-
-    // Whether a cell is inside and not solid.
-    fn held_at(&self, column: u16, row: u16) -> bool
-        ensures { result ≡ held_at self.now.layout self.now.map.now column row }
-    {
-        self.inside(column, row) && self.byte(column, row) != 255
-    }
-
-    // The road to a cell: open at one step if that cell is held.
-    fn step_to(&self, column: u16, row: u16) -> Result<Option<(Cell, Millis)>, Fault>
-        ensures { road_of (λ c. cell_key c.column c.row) (λ c. c.millis) result ≡ step_to self.now.layout self.now.map.now column row }
-    {
-        if self.held_at(column, row) {
-            return Ok(Some((
-                Cell { column, row },
-                Millis {
-                    millis: self.layout.step,
-                },
-            )));
+        if !self.layout.contains(cell) {
+            return None;
         }
-        Ok(None)
+        let columns = self.layout.columns as usize;
+        let byte = self.map[cell.row as usize * columns + cell.column as usize];
+        (byte != SOLID).then_some(byte)
     }
 
-    // The road of a rank from a held cell.
-    fn road_at(&self, column: u16, row: u16, rank: u16) -> Result<Option<(Cell, Millis)>, Fault>
-        requires { held_at self.now.layout self.now.map.now column row ≡ true }
-        ensures { road_of (λ c. cell_key c.column c.row) (λ c. c.millis) result ≡ road_at self.now.layout self.now.map.now column row rank }
+    // The cell beside a cell inside, by rank: 0 up, 1 right, 2 down, 3 left.
+    fn beside(&self, cell: Cell, rank: u16) -> Option<Cell>
+        requires { inside self.now.layout cell.column cell.row ≡ true }
+        ensures { option_map (λ c. (c.column, c.row)) result ≡ beside cell.column cell.row rank }
     {
-        match rank {
-            0 => {
-                if row == 0 {
-                    return Ok(None);
-                }
-                self.step_to(column, row - 1)
-            }
-            1 => self.step_to(column + 1, row),
-            2 => self.step_to(column, row + 1),
-            3 => {
-                if column == 0 {
-                    return Ok(None);
-                }
-                self.step_to(column - 1, row)
-            }
-            _ => Ok(None),
-        }
+        let (column, row) = match rank {
+            0 => (cell.column, cell.row.checked_sub(1)?),
+            1 => (cell.column + 1, cell.row),
+            2 => (cell.column, cell.row + 1),
+            3 => (cell.column.checked_sub(1)?, cell.row),
+            _ => return None,
+        };
+        Some(Cell { column, row })
+    }
+
+    // The road of a rank from a cell: open at one step if the cell and the one beside it are held.
+    fn step(&self, cell: Cell, rank: u16) -> Option<(Cell, Millis)>
+        ensures { road_of (λ c. cell_key c.column c.row) (λ c. c.millis) (Ok result) ≡ cond (held_at self.now.layout self.now.map.now cell.column cell.row) (road_at self.now.layout self.now.map.now cell.column cell.row rank) closed }
+    {
+        self.zone_at(cell)?;
+        let to = self.beside(cell, rank)?;
+        self.zone_at(to)?;
+        let step = Millis {
+            millis: self.layout.step,
+        };
+        Some((to, step))
     }
 
     // The guess at a cell.
-    fn guess_at(&self, column: u16, row: u16) -> Millis
-        ensures { result.millis ≡ guess_at self.now.layout column row }
+    fn guess_at(&self, cell: Cell) -> Millis
+        ensures { result.millis ≡ guess_at self.now.layout cell.column cell.row }
     {
         let target = self.layout.target;
-        let steps = column.abs_diff(target.column) as u32 + row.abs_diff(target.row) as u32;
+        let steps = cell.column.abs_diff(target.column) as u32
+            + cell.row.abs_diff(target.row) as u32;
         Millis {
             millis: steps * self.layout.step,
         }
@@ -111,56 +93,36 @@ impl<'a> Graph for Field<'a> {
 
     type Cost = Millis;
 
-    ghost holds = { λ f. (field_meaning f.layout f.map.now).held };
-
-    ghost zones = { λ f. (field_meaning f.layout f.map.now).zone };
-
-    ghost counts = { λ f. (field_meaning f.layout f.map.now).count };
-
-    ghost roads = { λ f. (field_meaning f.layout f.map.now).road };
+    ghost means = { λ f. field_meaning f.layout f.map.now };
 
     ghost guesses = { λ f. field_guess f.layout f.map.now };
-
-    ghost goals = { λ f. (field_meaning f.layout f.map.now).goal };
 
     ghost lawful = { λ f. field_lawful f.layout f.map.now (few_columns f.layout f.range) f.cells };
 
     fn held(&self, node: &Cell) -> bool {
-        self.held_at(node.column, node.row)
+        self.zone_at(*node).is_some()
     }
 
     fn zone(&self, node: &Cell) -> u8 {
-        if self.held_at(node.column, node.row) {
-            return self.byte(node.column, node.row);
-        }
-        0
+        self.zone_at(*node).unwrap_or(0)
     }
 
     fn road_count(&self, node: &Cell) -> u16 {
-        if self.held_at(node.column, node.row) {
-            return 4;
-        }
-        0
+        if self.held(node) { 4 } else { 0 }
     }
 
     fn road(&self, node: &Cell, rank: u16) -> Result<Option<(Cell, Millis)>, Fault> {
-        if self.held_at(node.column, node.row) {
-            return self.road_at(node.column, node.row, rank);
-        }
-        Ok(None)
+        Ok(self.step(*node, rank))
     }
 
     fn guess(&self, node: &Cell) -> Millis {
-        if self.held_at(node.column, node.row) {
-            return self.guess_at(node.column, node.row);
+        if !self.held(node) {
+            return Millis::zero();
         }
-        Millis::zero()
+        self.guess_at(*node)
     }
 
     fn goal(&self, node: &Cell) -> bool {
-        if self.held_at(node.column, node.row) {
-            return node.column == self.layout.target.column && node.row == self.layout.target.row;
-        }
-        false
+        self.held(node) && *node == self.layout.target
     }
 }

@@ -1,12 +1,36 @@
 // What a field is, but for its map.
+ghost use Rattle.std.specs.Prelude.{◌≡◌};
+
 use kinds::Cell;
 
 // The size of a field, what a step on it costs, and where it ends.
-#[derive(Clone, Copy, Debug)]
+#[derive(Clone, Copy, PartialEq, Eq, Debug)]
 pub struct Layout {
     pub columns: u16,
     pub rows: u16,
     // What one step costs, in milliseconds.
     pub step: u32,
     pub target: Cell,
+}
+
+impl Layout {
+    ghost use Rattle.field.specs.Cells.{inside};
+    ghost use Rattle.field.specs.Checking.{in_range};
+
+    // Whether a cell is inside.
+    pub(crate) fn contains(&self, cell: Cell) -> bool
+        ensures { result ≡ inside self.now cell.column cell.row }
+    {
+        cell.column < self.columns && cell.row < self.rows
+    }
+
+    // Whether columns, rows, step and target are in range.
+    pub(crate) fn is_in_range(&self) -> bool
+        ensures { result ≡ in_range self.now }
+    {
+        (1..=256).contains(&self.columns)
+            && (1..=128).contains(&self.rows)
+            && (1..=1000).contains(&self.step)
+            && self.contains(self.target)
+    }
 }

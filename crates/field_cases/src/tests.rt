@@ -1,7 +1,7 @@
 // What small fields answer, alone and under fences and tolls.
 ghost use Rattle.std.specs.Prelude.{◌≡◌, ℕ, ◌<◌, true, false, replicate, slice_set};
 ghost use Rattle.kinds.specs.Kind.{kind};
-ghost use Rattle.graph.specs.Meaning.{Meaning, meaning};
+ghost use Rattle.graph.specs.Meaning.{Meaning};
 ghost use Rattle.graph.specs.Routes.{True};
 ghost use Rattle.graph.specs.Pile.{Pile};
 
@@ -21,7 +21,7 @@ fn row() -> Layout {
     }
 }
 
-// The table with this zone alone.
+// The table with this zone alone. The trials have one of their own: no crate below both is for tests.
 fn only(zone: u8) -> [bool; 64]
     requires { zone < 64 }
     ensures { result ≡ slice_set (replicate 64 false) zone true }
@@ -38,28 +38,22 @@ fn right<G: Graph<Node = Cell, Cost = Millis>>(graph: &G) -> Result<Option<(Cell
 
 // The guess of a pile over a bottom graph with a true guess, which is true.
 fn guided<C: CostKind, G: Graph<Cost = C>>(graph: &G, node: &G::Node) -> C
-    requires { (bottom : Meaning) × (guess : ℕ → ℕ) × True bottom guess × Pile (kind C.CostKind.fits C.CostKind.greatest) bottom guess (meaning G.Graph.holds G.Graph.zones G.Graph.counts G.Graph.roads G.Graph.goals graph.now) (G.Graph.guesses graph.now) }
-    ensures { True (meaning G.Graph.holds G.Graph.zones G.Graph.counts G.Graph.roads G.Graph.goals graph.now) (G.Graph.guesses graph.now) }
+    requires { (bottom : Meaning) × (guess : ℕ → ℕ) × True bottom guess × Pile C.kind bottom guess (G.means graph.now) (G.guesses graph.now) }
+    ensures { True (G.means graph.now) (G.guesses graph.now) }
 {
     let _ = piles_keep_truth();
     graph.guess(node)
 }
 
 #[test]
-fn byte_63_passes() -> Result<(), Fail> {
-    field::check(row(), &[0, 63, 255])?;
-    Ok(())
+fn byte_63_passes(rt: HostRuntime) {
+    assert_eq!(rt; field::check(row(), &[0, 63, 255]), Ok(()));
 }
 
 #[test]
-fn byte_64_is_refused_with_its_position(rt: HostRuntime) -> Result<(), Fail> {
-    match field::check(row(), &[0, 63, 64]) {
-        Err(FieldRefusal::Byte { position }) => {
-            assert!(rt; position == 2);
-            Ok(())
-        },
-        _ => Err(Fail::new("not refused")),
-    }
+fn byte_64_is_refused_with_its_position(rt: HostRuntime) {
+    let refusal = FieldRefusal::Byte { position: 2 };
+    assert_eq!(rt; field::check(row(), &[0, 63, 64]), Err(refusal));
 }
 
 #[test]
@@ -87,16 +81,9 @@ fn toll_is_added_on_the_way_in(rt: HostRuntime) -> Result<(), Fail> {
     let (layout, map) = (row(), [0, 7, 0]);
     field::check(layout, &map)?;
     let toll = Toll::new(Field::make(layout, &map), Millis { millis: 5 }, only(7));
-    match right(&toll) {
-        Ok(road) => match road {
-            Some(open) => {
-                assert!(rt; open.1.millis == 15);
-                Ok(())
-            },
-            None => Err(Fail::new("closed")),
-        },
-        Err(_) => Err(Fail::new("faulty")),
-    }
+    let cost = right(&toll)?.map(|(_, cost)| cost);
+    assert_eq!(rt; cost, Some(Millis { millis: 15 }));
+    Ok(())
 }
 
 #[test]
@@ -112,14 +99,8 @@ fn fault_rises_through_three_layers(rt: HostRuntime) -> Result<(), Fail> {
         Toll::new(Fence::new(toll, only(1)), Millis { millis: 1 }, only(7)),
         only(7),
     );
-    match right(&pile) {
-        Err(fault) => {
-            assert!(rt; fault.rank == 1);
-            assert!(rt; fault.depth == 3);
-            Ok(())
-        }
-        _ => Err(Fail::new("not faulty")),
-    }
+    assert_eq!(rt; right(&pile), Err(Fault { rank: 1, depth: 3 }));
+    Ok(())
 }
 
 #[test]
@@ -131,6 +112,7 @@ fn guess_stays_true_under_a_pile(rt: HostRuntime) -> Result<(), Fail> {
         Millis { millis: 5 },
         only(7),
     );
-    assert!(rt; guided(&pile, &Cell { column: 0, row: 0 }).millis == 20);
+    let guess = guided(&pile, &Cell { column: 0, row: 0 });
+    assert_eq!(rt; guess, Millis { millis: 20 });
     Ok(())
 }

@@ -16,10 +16,6 @@ pub record Meaning : Type 0 where
   pub road : (key rank : ℕ) → Road
   pub goal : ℕ → Bool
 
--- the meaning of a graph g, made of the members of its kind of graph
-abbrev pub meaning : {G : Type 0} → (G → ℕ → Bool) → (G → ℕ → ℕ) → (G → ℕ → ℕ) → (G → ℕ → ℕ → Road) → (G → ℕ → Bool) → G → Meaning
-meaning held zone count road goal g = record { held = held g; zone = zone g; count = count g; road = road g; goal = goal g }
-
 -- the laws of graphs: zones and counts are within their limits, an open road leads to a held key, a rank not below the
 -- count is closed, and a key that is not held has zone 0, no road, guess zero, and is no goal
 pub record Lawful (M : Meaning) (guess : ℕ → ℕ) : Type 0 where

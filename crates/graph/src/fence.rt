@@ -1,11 +1,11 @@
 // A fence over a graph.
-ghost use Rattle.std.specs.Prelude.{◌≡◌, ℕ, Bool, false, slice_index_or};
-ghost use Rattle.graph.specs.Meaning.{meaning};
-ghost use Rattle.graph.specs.Fenced.{fenced, fenced_guess};
+ghost use Rattle.std.specs.Prelude.{◌≡◌, ℕ, Bool};
+ghost use Rattle.graph.specs.Fenced.{bars, fenced, fenced_guess};
 ghost use Rattle.graph.specs.Layers.{fenced_lawful};
 
 use crate::fault::Fault;
 use crate::questions::Graph;
+use crate::zones::zone_in;
 use kinds::{CostKind, NodeKind};
 
 // The graph below without the keys whose zone is barred, and without the roads to them.
@@ -26,9 +26,9 @@ impl<G: Graph> Fence<G> {
 
     // Whether the node's zone is barred.
     fn bars(&self, node: &G::Node) -> bool
-        ensures { result ≡ slice_index_or self.now.barred (G.Graph.zones self.now.below (G.Node.NodeKind.key node.now)) false }
+        ensures { result ≡ bars self.now.barred (G.means self.now.below) (G.Node.key node.now) }
     {
-        self.barred[G::zone(&self.below, node) as usize]
+        zone_in(&self.barred, &self.below, node)
     }
 }
 
@@ -37,19 +37,11 @@ impl<G: Graph> Graph for Fence<G> {
 
     type Cost = G::Cost;
 
-    ghost holds = { λ f. (fenced f.barred (meaning G.Graph.holds G.Graph.zones G.Graph.counts G.Graph.roads G.Graph.goals f.below)).held };
+    ghost means = { λ f. fenced f.barred (G.means f.below) };
 
-    ghost zones = { λ f. (fenced f.barred (meaning G.Graph.holds G.Graph.zones G.Graph.counts G.Graph.roads G.Graph.goals f.below)).zone };
+    ghost guesses = { λ f. fenced_guess f.barred (G.means f.below) (G.guesses f.below) };
 
-    ghost counts = { λ f. (fenced f.barred (meaning G.Graph.holds G.Graph.zones G.Graph.counts G.Graph.roads G.Graph.goals f.below)).count };
-
-    ghost roads = { λ f. (fenced f.barred (meaning G.Graph.holds G.Graph.zones G.Graph.counts G.Graph.roads G.Graph.goals f.below)).road };
-
-    ghost guesses = { λ f. fenced_guess f.barred (meaning G.Graph.holds G.Graph.zones G.Graph.counts G.Graph.roads G.Graph.goals f.below) (G.Graph.guesses f.below) };
-
-    ghost goals = { λ f. (fenced f.barred (meaning G.Graph.holds G.Graph.zones G.Graph.counts G.Graph.roads G.Graph.goals f.below)).goal };
-
-    ghost lawful = { λ f. fenced_lawful f.barred (meaning G.Graph.holds G.Graph.zones G.Graph.counts G.Graph.roads G.Graph.goals f.below) (G.Graph.guesses f.below) (G.Graph.lawful f.below) };
+    ghost lawful = { λ f. fenced_lawful f.barred (G.means f.below) (G.guesses f.below) (G.lawful f.below) };
 
     fn held(&self, node: &G::Node) -> bool {
         !self.bars(node) && self.below.held(node)
@@ -73,16 +65,8 @@ impl<G: Graph> Graph for Fence<G> {
         if self.bars(node) {
             return Ok(None);
         }
-        match self.below.road(node, rank) {
-            Ok(Some(open)) => {
-                if self.bars(&open.0) {
-                    return Ok(None);
-                }
-                Ok(Some(open))
-            }
-            Ok(None) => Ok(None),
-            Err(fault) => Err(fault.passed_up()),
-        }
+        let open = self.below.road(node, rank).map_err(Fault::passed_up)?;
+        Ok(open.filter(|(to, _)| !self.bars(to)))
     }
 
     fn guess(&self, node: &G::Node) -> G::Cost {

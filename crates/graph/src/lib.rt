@@ -3,11 +3,11 @@
 
 pub mod fault;
 pub mod fence;
-pub mod passing;
 pub mod piles;
 pub mod questions;
 pub mod toll;
 pub mod unguided;
+mod zones;
 
 pub use fault::Fault;
 pub use fence::Fence;

@@ -1,13 +1,12 @@
 // A toll over a graph.
-ghost use Rattle.std.specs.Prelude.{◌≡◌, ℕ, Bool, false, slice_index_or};
-ghost use Rattle.kinds.specs.Kind.{kind};
-ghost use Rattle.graph.specs.Meaning.{meaning};
+ghost use Rattle.std.specs.Prelude.{◌≡◌, ℕ, Bool};
 ghost use Rattle.graph.specs.Answers.{road_of};
-ghost use Rattle.graph.specs.Tolled.{dearer, tolled};
+ghost use Rattle.graph.specs.Tolled.{charges, dearer, tolled};
 ghost use Rattle.graph.specs.Layers.{tolled_lawful};
 
 use crate::fault::Fault;
 use crate::questions::Graph;
+use crate::zones::zone_in;
 use kinds::{CostKind, NodeKind};
 
 // The graph below with one cost added to every open road that leads into a charged zone.
@@ -34,19 +33,17 @@ impl<C: CostKind, G: Graph<Cost = C>> Toll<G, C> {
 
     // Whether the node's zone is charged.
     fn charges(&self, node: &G::Node) -> bool
-        ensures { result ≡ slice_index_or self.now.charged (G.Graph.zones self.now.below (G.Node.NodeKind.key node.now)) false }
+        ensures { result ≡ charges self.now.charged (G.means self.now.below) (G.Node.key node.now) }
     {
-        self.charged[G::zone(&self.below, node) as usize]
+        zone_in(&self.charged, &self.below, node)
     }
 
     // The open road of a rank to a node with the toll added to its cost.
     fn dearer(&self, rank: u16, to: G::Node, cost: C) -> Result<Option<(G::Node, C)>, Fault>
-        ensures { road_of G.Node.NodeKind.key C.CostKind.weight result ≡ dearer (kind C.CostKind.fits C.CostKind.greatest) (C.CostKind.weight self.now.cost) rank (G.Node.NodeKind.key to) (C.CostKind.weight cost) }
+        ensures { road_of G.Node.key C.weight result ≡ dearer C.kind (C.weight self.now.cost) rank (G.Node.key to) (C.weight cost) }
     {
-        match cost.sum(self.cost) {
-            Some(sum) => Ok(Some((to, sum))),
-            None => Err(Fault { rank, depth: 0 }),
-        }
+        let sum = cost.sum(self.cost).ok_or(Fault { rank, depth: 0 })?;
+        Ok(Some((to, sum)))
     }
 }
 
@@ -55,19 +52,11 @@ impl<C: CostKind, G: Graph<Cost = C>> Graph for Toll<G, C> {
 
     type Cost = C;
 
-    ghost holds = { λ t. (tolled (kind C.CostKind.fits C.CostKind.greatest) t.charged (C.CostKind.weight t.cost) (meaning G.Graph.holds G.Graph.zones G.Graph.counts G.Graph.roads G.Graph.goals t.below)).held };
+    ghost means = { λ t. tolled C.kind t.charged (C.weight t.cost) (G.means t.below) };
 
-    ghost zones = { λ t. (tolled (kind C.CostKind.fits C.CostKind.greatest) t.charged (C.CostKind.weight t.cost) (meaning G.Graph.holds G.Graph.zones G.Graph.counts G.Graph.roads G.Graph.goals t.below)).zone };
+    ghost guesses = { λ t. G.guesses t.below };
 
-    ghost counts = { λ t. (tolled (kind C.CostKind.fits C.CostKind.greatest) t.charged (C.CostKind.weight t.cost) (meaning G.Graph.holds G.Graph.zones G.Graph.counts G.Graph.roads G.Graph.goals t.below)).count };
-
-    ghost roads = { λ t. (tolled (kind C.CostKind.fits C.CostKind.greatest) t.charged (C.CostKind.weight t.cost) (meaning G.Graph.holds G.Graph.zones G.Graph.counts G.Graph.roads G.Graph.goals t.below)).road };
-
-    ghost guesses = { λ t. G.Graph.guesses t.below };
-
-    ghost goals = { λ t. (tolled (kind C.CostKind.fits C.CostKind.greatest) t.charged (C.CostKind.weight t.cost) (meaning G.Graph.holds G.Graph.zones G.Graph.counts G.Graph.roads G.Graph.goals t.below)).goal };
-
-    ghost lawful = { λ t. tolled_lawful (kind C.CostKind.fits C.CostKind.greatest) t.charged (C.CostKind.weight t.cost) (meaning G.Graph.holds G.Graph.zones G.Graph.counts G.Graph.roads G.Graph.goals t.below) (G.Graph.guesses t.below) (G.Graph.lawful t.below) };
+    ghost lawful = { λ t. tolled_lawful C.kind t.charged (C.weight t.cost) (G.means t.below) (G.guesses t.below) (G.lawful t.below) };
 
     fn held(&self, node: &G::Node) -> bool {
         self.below.held(node)
@@ -82,16 +71,13 @@ impl<C: CostKind, G: Graph<Cost = C>> Graph for Toll<G, C> {
     }
 
     fn road(&self, node: &G::Node, rank: u16) -> Result<Option<(G::Node, C)>, Fault> {
-        match self.below.road(node, rank) {
-            Ok(Some(open)) => {
-                if self.charges(&open.0) {
-                    return self.dearer(rank, open.0, open.1);
-                }
-                Ok(Some(open))
-            }
-            Ok(None) => Ok(None),
-            Err(fault) => Err(fault.passed_up()),
+        let Some((to, cost)) = self.below.road(node, rank).map_err(Fault::passed_up)? else {
+            return Ok(None);
+        };
+        if self.charges(&to) {
+            return self.dearer(rank, to, cost);
         }
+        Ok(Some((to, cost)))
     }
 
     fn guess(&self, node: &G::Node) -> C {

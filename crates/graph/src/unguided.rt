@@ -17,19 +17,11 @@ impl<'a, G: Graph> Graph for Unguided<'a, G> {
 
     type Cost = G::Cost;
 
-    ghost holds = { λ u. G.Graph.holds u.below.now };
-
-    ghost zones = { λ u. G.Graph.zones u.below.now };
-
-    ghost counts = { λ u. G.Graph.counts u.below.now };
-
-    ghost roads = { λ u. G.Graph.roads u.below.now };
+    ghost means = { λ u. G.means u.below.now };
 
     ghost guesses = { λ u k. 0 };
 
-    ghost goals = { λ u. G.Graph.goals u.below.now };
-
-    ghost lawful = { λ u. unguided_lawful _ (G.Graph.guesses u.below.now) (G.Graph.lawful u.below.now) };
+    ghost lawful = { λ u. unguided_lawful _ (G.guesses u.below.now) (G.lawful u.below.now) };
 
     fn held(&self, node: &G::Node) -> bool {
         self.below.held(node)

@@ -1,15 +1,16 @@
 // Cells: nodes by column and row.
-ghost use Rattle.std.specs.Prelude.{◌≡◌, ℕ, ◌+◌, ◌*◌};
+ghost use Rattle.std.specs.Prelude.{◌≡◌, ℕ, ◌+◌, ◌*◌, ◌≤◌};
 ghost use Rattle.kinds.specs.Cell.{cell_key};
 ghost use Rattle.std.proofs.Common.{rules};
 
 use crate::node_kind::NodeKind;
 
 // A cell of a map; its key is row × 65,536 + column.
-#[derive(Clone, Copy, Debug)]
+#[derive(Clone, Copy, PartialEq, Eq, Debug)]
 pub struct Cell {
     pub column: u16,
     pub row: u16,
+    ghost narrow: { column ≤ 65535 },
 }
 
 impl NodeKind for Cell {
@@ -17,11 +18,9 @@ impl NodeKind for Cell {
 
     ghost marks = { λ c. cell_key c.column c.row };
 
-    ghost alike = { Prim.search rules };
+    ghost equal = { Prim.search rules };
 
-    fn same(&self, other: &Cell) -> bool {
-        self.column == other.column && self.row == other.row
-    }
+    ghost alike = { Prim.search rules };
 
     fn mark(&self) -> u32 {
         self.row as u32 * 65536 + self.column as u32

@@ -1,22 +1,30 @@
 // Milliseconds: a cost of one part.
 ghost use Rattle.std.specs.Prelude.{◌≡◌, ℕ, ◌+◌, ◌≤◌, nat_le};
+ghost use Rattle.kinds.specs.Kind.{kind};
 ghost use Rattle.std.proofs.Common.{rules, arith};
 
 use crate::cost_kind::CostKind;
+use std::fmt;
 
 // A cost in milliseconds, which it weighs.
-#[derive(Clone, Copy, Debug)]
+#[derive(Clone, Copy, PartialEq, Eq, PartialOrd, Ord, Debug)]
 pub struct Millis {
     pub millis: u32,
     ghost small: { millis ≤ 4294967295 },
 }
 
+impl fmt::Display for Millis {
+    fn fmt<W: fmt::Write>(&self, f: &mut fmt::Formatter<W>) -> fmt::Result {
+        self.millis.fmt(f)
+    }
+}
+
 impl CostKind for Millis {
     ghost weight = { λ c. c.millis };
 
-    ghost fits = { λ a b. nat_le (a + b) 4294967295 };
+    ghost kind = { kind (λ a b. nat_le (a + b) 4294967295) 4294967295 };
 
-    ghost greatest = { 4294967295 };
+    ghost ordered = { Prim.search rules };
 
     ghost apart = { Prim.grind (arith, Self.row.coded.inj) };
 
@@ -34,20 +42,12 @@ impl CostKind for Millis {
         Millis { millis: 0 }
     }
 
-    fn max() -> Millis {
+    fn greatest() -> Millis {
         Millis { millis: u32::MAX }
     }
 
-    fn less(&self, other: &Millis) -> bool {
-        self.millis < other.millis
-    }
-
     fn sum(self, other: Millis) -> Option<Millis> {
-        if self.millis <= u32::MAX - other.millis {
-            return Some(Millis {
-                millis: self.millis + other.millis,
-            });
-        }
-        None
+        let millis = self.millis.checked_add(other.millis)?;
+        Some(Millis { millis })
     }
 }

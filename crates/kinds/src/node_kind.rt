@@ -1,18 +1,17 @@
-// What a node kind is: a key for each node, and a mark that equal keys share.
+// What a node kind is: a key for each node, by which nodes are equal, and a mark that equal keys share.
 ghost use Rattle.std.specs.Prelude.{◌≡◌, ℕ, ◌==◌};
 
-pub trait NodeKind: Copy {
+pub trait NodeKind: Copy + Eq {
     ghost key: { Self → ℕ };
 
     ghost marks: { Self → ℕ };
 
-    // Whether the two have one key.
-    fn same(&self, other: &Self) -> bool
-        ensures { result ≡ (key self.now == key other.now) };
-
     // A number to hash by.
     fn mark(&self) -> u32
         ensures { result ≡ marks self.now };
+
+    // Two nodes are equal where they have one key, and then have one mark.
+    ghost equal: { (a b : Self) → Self.eq a b ≡ (key a == key b) };
 
     ghost alike: { (a b : Self) → key a ≡ key b → marks a ≡ marks b };
 }

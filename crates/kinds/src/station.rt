@@ -3,11 +3,18 @@ ghost use Rattle.std.specs.Prelude.{◌≡◌, ℕ};
 ghost use Rattle.std.proofs.Common.{rules};
 
 use crate::node_kind::NodeKind;
+use std::fmt;
 
 // A station; its number is its key.
-#[derive(Clone, Copy, Debug)]
+#[derive(Clone, Copy, PartialEq, Eq, Debug)]
 pub struct Station {
     pub id: u32,
+}
+
+impl fmt::Display for Station {
+    fn fmt<W: fmt::Write>(&self, f: &mut fmt::Formatter<W>) -> fmt::Result {
+        self.id.fmt(f)
+    }
 }
 
 impl NodeKind for Station {
@@ -15,11 +22,9 @@ impl NodeKind for Station {
 
     ghost marks = { λ s. s.id };
 
-    ghost alike = { Prim.search rules };
+    ghost equal = { Prim.search rules };
 
-    fn same(&self, other: &Station) -> bool {
-        self.id == other.id
-    }
+    ghost alike = { Prim.search rules };
 
     fn mark(&self) -> u32 {
         self.id

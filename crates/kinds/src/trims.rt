@@ -1,12 +1,14 @@
 // Trims with milliseconds: a cost of two parts, of which a trim outweighs all milliseconds.
 ghost use Rattle.std.specs.Prelude.{◌≡◌, ℕ, ◌+◌, ◌*◌, ◌≤◌};
+ghost use Rattle.kinds.specs.Kind.{kind};
 ghost use Rattle.kinds.specs.Trims.{both_fit};
 ghost use Rattle.std.proofs.Common.{rules, arith};
 
 use crate::cost_kind::CostKind;
+use std::fmt;
 
 // A cost in thread trims and milliseconds; it weighs trims × 4,294,967,296 + milliseconds.
-#[derive(Clone, Copy, Debug)]
+#[derive(Clone, Copy, PartialEq, Eq, PartialOrd, Ord, Debug)]
 pub struct Trims {
     pub trims: u32,
     pub millis: u32,
@@ -14,12 +16,20 @@ pub struct Trims {
     ghost small: { millis ≤ 4294967295 },
 }
 
+// Trims, then milliseconds.
+impl fmt::Display for Trims {
+    fn fmt<W: fmt::Write>(&self, f: &mut fmt::Formatter<W>) -> fmt::Result {
+        let Trims { trims, millis } = self;
+        write!(f, "{trims} {millis}")
+    }
+}
+
 impl CostKind for Trims {
     ghost weight = { λ c. c.trims * 4294967296 + c.millis };
 
-    ghost fits = { both_fit };
+    ghost kind = { kind both_fit 18446744073709551615 };
 
-    ghost greatest = { 18446744073709551615 };
+    ghost ordered = { Prim.search rules };
 
     ghost apart = { Prim.grind (arith, Self.row.coded.inj) };
 
@@ -40,27 +50,16 @@ impl CostKind for Trims {
         }
     }
 
-    fn max() -> Trims {
+    fn greatest() -> Trims {
         Trims {
             trims: u32::MAX,
             millis: u32::MAX,
         }
     }
 
-    fn less(&self, other: &Trims) -> bool {
-        if self.trims == other.trims {
-            return self.millis < other.millis;
-        }
-        self.trims < other.trims
-    }
-
     fn sum(self, other: Trims) -> Option<Trims> {
-        if self.trims <= u32::MAX - other.trims && self.millis <= u32::MAX - other.millis {
-            return Some(Trims {
-                trims: self.trims + other.trims,
-                millis: self.millis + other.millis,
-            });
-        }
-        None
+        let trims = self.trims.checked_add(other.trims)?;
+        let millis = self.millis.checked_add(other.millis)?;
+        Some(Trims { trims, millis })
     }
 }

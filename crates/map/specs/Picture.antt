@@ -1,11 +1,11 @@
 -- A map with a route drawn on it, as the numbers of its characters.
-use Rattle.std.specs.Prelude.{ℕ, ◌+◌, ◌*◌, cond, List, [], ◌∷◌, map, length, nat_lt, slice_set}
+use Rattle.std.specs.Prelude.{ℕ, ◌+◌, ◌*◌, if◌then◌else◌, List, map, fold, length, nat_lt, slice_set}
 use Rattle.kinds.specs.declared.cell.Cell.{Cell}
 use Rattle.map.specs.Signs.{sign_of}
 
 -- signs with one at this position in place of what was there, if there is such a position
 abbrev pub put_at : ℕ → ℕ → List ℕ → List ℕ
-put_at sign position signs = cond (nat_lt position (length signs)) (slice_set signs position sign) signs
+put_at sign position signs = if nat_lt position (length signs) then slice_set signs position sign else signs
 
 -- rows of so many columns with a sign at a cell
 abbrev pub marked : ℕ → ℕ → Cell → List ℕ → List ℕ
@@ -13,8 +13,7 @@ marked sign columns cell signs = put_at sign (cell.row * columns + cell.column) 
 
 -- the same at each cell of a list
 abbrev pub marked_all : ℕ → ℕ → List Cell → List ℕ → List ℕ
-marked_all sign columns [] signs = signs
-marked_all sign columns (cell ∷ cells) signs = marked_all sign columns cells (marked sign columns cell signs)
+marked_all sign columns cells signs = fold (λ drawn cell. marked sign columns cell drawn) signs cells
 
 -- the signs of a map's bytes, with '*' at the cells of the route, '!' at the target and '@' at the start
 abbrev pub picture : ℕ → (start target : Cell) → List Cell → List ℕ → List ℕ

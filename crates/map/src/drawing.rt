@@ -1,15 +1,24 @@
 // A field as it was drawn.
 use field::Layout;
-use kinds::Cell;
+use kinds::{Cell, Millis};
 
-// What the lines before the map say. Zones are barred by a fence, and charged by a toll.
+// Which zones are meant.
+pub type Zones = [bool; 64];
+
+// A cost, and the zones that it is asked for.
+#[derive(Clone, Copy)]
+pub struct Charge {
+    pub cost: Millis,
+    pub zones: Zones,
+}
+
+// What the lines before the map say: zones that a fence bars, and zones that a toll charges.
 #[derive(Clone, Copy)]
 pub struct Plan {
     pub layout: Layout,
     pub start: Cell,
-    pub barred: [bool; 64],
-    pub toll: u32,
-    pub charged: [bool; 64],
+    pub fence: Option<Zones>,
+    pub toll: Option<Charge>,
 }
 
 // A plan and the map's bytes, one a cell, row by row.

@@ -1,10 +1,15 @@
 // The lines before the map, each a word and what it asks for.
-ghost use Rattle.std.specs.Prelude.{◌<◌, IfSome};
+ghost use Rattle.std.specs.Prelude.{◌≡◌, ◌<◌, IfSome, MatchResult};
+ghost use Rattle.std.specs.Option.{option_map};
+ghost use Rattle.map.specs.Words.{words};
+ghost use Rattle.map.specs.Headers.{size_of, cell_of, zone_of, zones_of, toll_of, SaysHeader, LacksHeader};
 
+use crate::drawing::{Charge, Zones};
 use crate::mistake::Mistake;
 use crate::signs::byte_of;
-use kinds::Cell;
-use std::str::SplitWhitespace;
+use crate::words::Words;
+use kinds::{Cell, Millis};
+use std::str::FromStr;
 
 // The columns and the rows of a field, and what one step costs in milliseconds.
 #[derive(Clone, Copy)]
@@ -14,39 +19,24 @@ pub struct Size {
     pub step: u32,
 }
 
-// A cost in milliseconds, and the zones that it is asked for.
-#[derive(Clone, Copy)]
-pub struct Charge {
-    pub millis: u32,
-    pub zones: [bool; 64],
-}
-
 #[derive(Clone, Copy)]
 pub enum Header {
     Blank,
     Field(Size),
     Start(Cell),
     Target(Cell),
-    Fence([bool; 64]),
+    Fence(Zones),
     Toll(Charge),
     Map,
 }
 
-fn small_number(words: &mut SplitWhitespace) -> Option<u16> {
-    words.next()?.parse::<u16>().ok()
-}
-
-fn number(words: &mut SplitWhitespace) -> Option<u32> {
-    words.next()?.parse::<u32>().ok()
-}
-
-fn size_line(mut words: SplitWhitespace) -> Option<Size> {
-    let columns = small_number(&mut words)?;
-    let rows = small_number(&mut words)?;
-    let step = number(&mut words)?;
-    if words.next().is_some() {
-        return None;
-    }
+fn size_line(mut words: Words) -> Option<Size>
+    ensures { result ≡ size_of words.entry }
+{
+    let columns = words.number()?;
+    let rows = words.number()?;
+    let step = words.number()?;
+    words.end()?;
     Some(Size {
         columns,
         rows,
@@ -54,18 +44,19 @@ fn size_line(mut words: SplitWhitespace) -> Option<Size> {
     })
 }
 
-fn cell_line(mut words: SplitWhitespace) -> Option<Cell> {
-    let column = small_number(&mut words)?;
-    let row = small_number(&mut words)?;
-    if words.next().is_some() {
-        return None;
-    }
+fn cell_line(mut words: Words) -> Option<Cell>
+    ensures { option_map (λ cell. (cell.column, cell.row)) result ≡ cell_of words.entry }
+{
+    let column = words.number()?;
+    let row = words.number()?;
+    words.end()?;
     Some(Cell { column, row })
 }
 
 // The zone whose sign is the word.
 fn zone_of(word: &str) -> Option<u8>
-    ensures { IfSome result (λ zone. zone < 64) }
+    ensures zone { result ≡ zone_of word.now }
+    ensures small { IfSome result (λ zone. zone < 64) }
 {
     let mut signs = word.chars();
     let byte = byte_of(signs.next()?)?;
@@ -75,62 +66,50 @@ fn zone_of(word: &str) -> Option<u8>
     Some(byte)
 }
 
-// Adds the zone whose sign is the word, and answers whether there is one.
-fn add_zone(table: &mut [bool; 64], word: &str) -> bool {
-    match zone_of(word) {
-        None => false,
-        Some(zone) => {
-            table[zone as usize] = true;
-            true
-        }
-    }
-}
-
-// The table of the zones whose signs are the words, of which there is one or more.
-fn zones_line(words: SplitWhitespace) -> Option<[bool; 64]> {
-    let mut table = [false; 64];
-    let mut count = 0usize;
+// The zones whose signs are the words, of which there is one or more.
+fn zones_line(words: Words) -> Option<Zones>
+    ensures { result ≡ zones_of words.entry }
+{
+    let mut zones = [false; 64];
     for word in words {
-        if !add_zone(&mut table, word) {
-            return None;
-        }
-        count = count.saturating_add(1);
+        zones[zone_of(word)? as usize] = true;
     }
-    if count == 0 {
+    if !zones.contains(&true) {
         return None;
     }
-    Some(table)
+    Some(zones)
 }
 
-fn toll_line(mut words: SplitWhitespace) -> Option<Charge> {
-    let millis = number(&mut words)?;
+fn toll_line(mut words: Words) -> Option<Charge>
+    ensures { option_map (λ charge. (charge.cost.millis, charge.zones)) result ≡ toll_of words.entry }
+{
+    let millis = words.number()?;
     let zones = zones_line(words)?;
-    Some(Charge { millis, zones })
-}
-
-// What a line whose first word is known asks for.
-fn named(word: &str, mut words: SplitWhitespace) -> Result<Header, Mistake> {
-    match word {
-        "field" => Ok(Header::Field(size_line(words).ok_or(Mistake::Size)?)),
-        "start" => Ok(Header::Start(cell_line(words).ok_or(Mistake::Start)?)),
-        "target" => Ok(Header::Target(cell_line(words).ok_or(Mistake::Target)?)),
-        "fence" => Ok(Header::Fence(zones_line(words).ok_or(Mistake::Fence)?)),
-        "toll" => Ok(Header::Toll(toll_line(words).ok_or(Mistake::Toll)?)),
-        "map" => {
-            if words.next().is_some() {
-                return Err(Mistake::Map);
-            }
-            Ok(Header::Map)
-        }
-        _ => Err(Mistake::Keyword),
-    }
+    Some(Charge {
+        cost: Millis { millis },
+        zones,
+    })
 }
 
 // What a line before the map says.
-pub fn parse(line: &str) -> Result<Header, Mistake> {
-    let mut words = line.split_whitespace();
-    match words.next() {
-        None => Ok(Header::Blank),
-        Some(word) => named(word, words),
+impl FromStr for Header {
+    type Err = Mistake;
+
+    ghost from_str_gives = { λ line r. MatchResult r (SaysHeader (words line)) (LacksHeader (words line)) };
+
+    fn from_str(line: &str) -> Result<Header, Mistake> {
+        let mut words = Words::of(line);
+        let Some(word) = words.next() else {
+            return Ok(Header::Blank);
+        };
+        match word {
+            "field" => size_line(words).map(Header::Field).ok_or(Mistake::Size),
+            "start" => cell_line(words).map(Header::Start).ok_or(Mistake::Start),
+            "target" => cell_line(words).map(Header::Target).ok_or(Mistake::Target),
+            "fence" => zones_line(words).map(Header::Fence).ok_or(Mistake::Fence),
+            "toll" => toll_line(words).map(Header::Toll).ok_or(Mistake::Toll),
+            "map" => words.end().map(|()| Header::Map).ok_or(Mistake::Map),
+            _ => Err(Mistake::Keyword),
+        }
     }
 }

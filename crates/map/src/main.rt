@@ -7,23 +7,16 @@ use std::io;
 mod canvas;
 mod drawing;
 mod header;
-mod memory;
 mod mistake;
 mod reader;
 mod searches;
 mod signs;
-
-fn start(rt: &HostRuntime) -> anyhow::Result<()> {
-    let text = io::read_to_string(rt.alloc(), rt.stdin())?;
-    match reader::read(rt.alloc(), text.as_str()) {
-        Ok(drawing) => searches::run(rt, &drawing),
-        Err(problem) => {
-            println!(rt; "{problem}")?;
-            Ok(())
-        }
-    }
-}
+mod words;
 
 fn main(rt: HostRuntime) -> anyhow::Result<()> {
-    start(&rt)
+    let text = io::read_to_string(rt.alloc(), rt.stdin())?;
+    match reader::read(rt.alloc(), text.as_str()) {
+        Ok(drawing) => searches::run(&rt, &drawing),
+        Err(problem) => Ok(println!(rt; "{problem}")?),
+    }
 }

@@ -1,8 +1,11 @@
 // What can be wrong with a drawing.
+ghost use Rattle.std.specs.Prelude.{◌≡◌};
+ghost use Rattle.map.specs.declared.mistake.Mistake.TheVariants.{Memory};
+
 use std::alloc::{AllocError, AllocFailed};
 use std::fmt;
 
-#[derive(Clone, Copy, Debug)]
+#[derive(Clone, Copy, PartialEq, Eq, Debug)]
 pub enum Mistake {
     // A line before the map begins with no word that is known.
     Keyword,
@@ -24,20 +27,36 @@ pub enum Mistake {
     // A row of the map that is too short or too long.
     Width { columns: u16, found: usize },
     // The drawing ends before its last row.
-    Short { rows: u16, found: usize },
+    Short { rows: u16, found: u16 },
     // The drawing goes on after its last row.
     Long { rows: u16 },
     // There is no memory for the map.
     Memory,
 }
 
+impl Mistake {
+    // The mistake in the line of this number.
+    pub fn at(self, line: usize) -> Problem
+        ensures { result ≡ record { line = line; mistake = self } }
+    {
+        Problem {
+            line,
+            mistake: self,
+        }
+    }
+}
+
 impl From<AllocError> for Mistake {
+    ghost from_gives = { λ _ mistake. mistake ≡ Memory };
+
     fn from(_error: AllocError) -> Mistake {
         Mistake::Memory
     }
 }
 
 impl<T: Drop> From<AllocFailed<T>> for Mistake {
+    ghost from_gives = { λ _ mistake. mistake ≡ Memory };
+
     fn from(_error: AllocFailed<T>) -> Mistake {
         Mistake::Memory
     }
@@ -82,7 +101,7 @@ impl fmt::Display for Mistake {
 }
 
 // A mistake, and the number of the line that it is in, from 1.
-#[derive(Clone, Copy, Debug)]
+#[derive(Clone, Copy, PartialEq, Eq, Debug)]
 pub struct Problem {
     pub line: usize,
     pub mistake: Mistake,
@@ -90,8 +109,7 @@ pub struct Problem {
 
 impl fmt::Display for Problem {
     fn fmt<W: fmt::Write>(&self, f: &mut fmt::Formatter<W>) -> fmt::Result {
-        let line = self.line;
-        let mistake = self.mistake;
+        let Problem { line, mistake } = self;
         write!(f, "line {line}: {mistake}")
     }
 }

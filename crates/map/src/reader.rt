@@ -1,25 +1,36 @@
 // A drawing read line by line.
-use crate::drawing::{Drawing, Plan};
-use crate::header;
-use crate::header::{Charge, Header, Size};
+ghost use Rattle.std.specs.Prelude.{◌≡◌, MatchOption};
+ghost use Rattle.map.specs.Rows.{ReadsRow};
+ghost use Rattle.map.specs.Headings.{plan_of, TakesHeader};
+
+use crate::drawing::{Charge, Drawing, Plan, Zones};
+use crate::header::{Header, Size};
 use crate::mistake::{Mistake, Problem};
 use crate::signs::byte_of;
 use field::Layout;
 use kinds::Cell;
 use std::alloc::Global;
+use std::iter::Zip;
+use std::ops::RangeInclusive;
+use std::str::Lines;
+
+// The lines of a text that are left, each with its number from 1.
+type NumberedLines<'a> = Zip<Lines<'a>, RangeInclusive<usize>>;
 
 // What the lines before the map have said so far.
-#[derive(Clone, Copy)]
+#[derive(Clone, Copy, Default)]
 struct Heading {
     size: Option<Size>,
     start: Option<Cell>,
     target: Option<Cell>,
-    barred: Option<[bool; 64]>,
+    fence: Option<Zones>,
     toll: Option<Charge>,
 }
 
 // Keeps what a line says, if no line of its word came before.
-fn keep<T: Copy>(place: &mut Option<T>, value: T) -> Result<(), Mistake> {
+fn keep<T: Copy>(place: &mut Option<T>, value: T) -> Result<(), Mistake>
+    ensures { MatchOption place.old ((result ≡ Ok tt) × (place.new ≡ Some value)) (λ _. (result ≡ Err Mistake.Twice) × (place.new ≡ place.old)) }
+{
     if place.is_some() {
         return Err(Mistake::Twice);
     }
@@ -28,149 +39,88 @@ fn keep<T: Copy>(place: &mut Option<T>, value: T) -> Result<(), Mistake> {
 }
 
 impl Heading {
-    fn new() -> Heading {
-        Heading {
-            size: None,
-            start: None,
-            target: None,
-            barred: None,
-            toll: None,
-        }
-    }
-
-    // The plan, if the size, the start and the target are given; no zone is barred or charged where no line says so.
-    fn plan(&self) -> Option<Plan> {
+    // The plan, if the size, the start and the target are given.
+    fn plan(&self) -> Option<Plan>
+        ensures { result ≡ plan_of self.now }
+    {
         let size = self.size?;
-        let start = self.start?;
-        let target = self.target?;
-        let nowhere = [false; 64];
-        let barred = self.barred.unwrap_or(nowhere);
-        let free = Charge {
-            millis: 0,
-            zones: nowhere,
-        };
-        let toll = self.toll.unwrap_or(free);
-        let charged = toll.zones;
-        let layout = Layout {
-            columns: size.columns,
-            rows: size.rows,
-            step: size.step,
-            target,
-        };
         Some(Plan {
-            layout,
-            start,
-            barred,
-            toll: toll.millis,
-            charged,
+            layout: Layout {
+                columns: size.columns,
+                rows: size.rows,
+                step: size.step,
+                target: self.target?,
+            },
+            start: self.start?,
+            fence: self.fence,
+            toll: self.toll,
         })
     }
+
+    // Takes what the next line says, and answers the plan once the map begins.
+    fn take(&mut self, header: Header) -> Result<Option<Plan>, Mistake>
+        ensures { TakesHeader self.old header result self.new }
+    {
+        match header {
+            Header::Blank => {}
+            Header::Field(size) => keep(&mut self.size, size)?,
+            Header::Start(cell) => keep(&mut self.start, cell)?,
+            Header::Target(cell) => keep(&mut self.target, cell)?,
+            Header::Fence(zones) => keep(&mut self.fence, zones)?,
+            Header::Toll(charge) => keep(&mut self.toll, charge)?,
+            Header::Map => return Ok(Some(self.plan().ok_or(Mistake::Early)?)),
+        }
+        Ok(None)
+    }
 }
 
-// What was read so far: the plan once the map has begun, and the bytes of so many rows.
-#[derive(Drop)]
-struct Reader {
-    heading: Heading,
-    plan: Option<Plan>,
-    map: Vec<u8>,
-    rows: usize,
+// The plan that the lines up to the map say, if there is a map.
+fn read_plan(lines: &mut NumberedLines) -> Result<Option<Plan>, Problem> {
+    let mut heading = Heading::default();
+    for (line, number) in lines {
+        let plan = line
+            .parse::<Header>()
+            .and_then(|header| heading.take(header))
+            .map_err(|mistake| mistake.at(number))?;
+        if plan.is_some() {
+            return Ok(plan);
+        }
+    }
+    Ok(None)
 }
 
-impl Reader {
-    fn heading_line(&mut self, line: &str) -> Result<(), Mistake> {
-        match header::parse(line)? {
-            Header::Blank => Ok(()),
-            Header::Field(size) => keep(&mut self.heading.size, size),
-            Header::Start(cell) => keep(&mut self.heading.start, cell),
-            Header::Target(cell) => keep(&mut self.heading.target, cell),
-            Header::Fence(zones) => keep(&mut self.heading.barred, zones),
-            Header::Toll(charge) => keep(&mut self.heading.toll, charge),
-            Header::Map => {
-                let plan = self.heading.plan().ok_or(Mistake::Early)?;
-                self.plan = Some(plan);
-                Ok(())
-            }
-        }
+// Adds the bytes of a row to those of the rows above it.
+fn add_row(map: &mut Vec<u8>, columns: u16, line: &str) -> Result<(), Mistake>
+    ensures { ReadsRow map.old.items columns line.now result map.new.items }
+{
+    let row = line.trim_end();
+    let found = row.chars().count();
+    if found != columns as usize {
+        return Err(Mistake::Width { columns, found });
     }
-
-    fn cell(&mut self, column: usize, sign: char) -> Result<(), Mistake> {
-        match byte_of(sign) {
-            None => Err(Mistake::Sign { column, sign }),
-            Some(byte) => {
-                self.map.push(byte)?;
-                Ok(())
-            }
-        }
+    for (column, sign) in row.chars().enumerate() {
+        map.push(byte_of(sign).ok_or(Mistake::Sign { column, sign })?)?;
     }
-
-    fn row(&mut self, columns: u16, line: &str) -> Result<(), Mistake> {
-        let found = line.chars().count();
-        if found != columns as usize {
-            return Err(Mistake::Width { columns, found });
-        }
-        for (column, sign) in line.chars().enumerate() {
-            self.cell(column, sign)?;
-        }
-        self.rows = self.rows.saturating_add(1);
-        Ok(())
-    }
-
-    fn map_line(&mut self, layout: Layout, line: &str) -> Result<(), Mistake> {
-        let row = line.trim_end();
-        if self.rows < layout.rows as usize {
-            return self.row(layout.columns, row);
-        }
-        if row.is_empty() {
-            return Ok(());
-        }
-        Err(Mistake::Long { rows: layout.rows })
-    }
-
-    fn line(&mut self, line: &str) -> Result<(), Mistake> {
-        match self.plan {
-            None => self.heading_line(line),
-            Some(plan) => self.map_line(plan.layout, line),
-        }
-    }
-
-    // The drawing, if all its rows are there.
-    fn finish(self) -> Result<Drawing, Mistake> {
-        let Reader {
-            heading: _,
-            plan,
-            map,
-            rows: found,
-        } = self;
-        match plan {
-            None => Err(Mistake::NoMap),
-            Some(plan) => {
-                let rows = plan.layout.rows;
-                if found < rows as usize {
-                    return Err(Mistake::Short { rows, found });
-                }
-                Ok(Drawing { plan, map })
-            }
-        }
-    }
+    Ok(())
 }
 
 // The drawing that a text is, or the first problem with it.
 pub fn read(heap: Global, text: &str) -> Result<Drawing, Problem> {
-    let mut reader = Reader {
-        heading: Heading::new(),
-        plan: None,
-        map: Vec::new(heap),
-        rows: 0,
-    };
-    let mut line = 1usize;
-    for text in text.lines() {
-        if let Err(mistake) = reader.line(text) {
-            return Err(Problem { line, mistake });
+    let after_last = text.lines().count().saturating_add(1);
+    let mut lines = text.lines().zip(1..=usize::MAX);
+    let plan = read_plan(&mut lines)?.ok_or(Mistake::NoMap.at(after_last))?;
+    let Layout { columns, rows, .. } = plan.layout;
+    let mut map = Vec::new(heap);
+    for found in 0..rows {
+        let (line, number) = lines
+            .next()
+            .ok_or(Mistake::Short { rows, found }.at(after_last))?;
+        add_row(&mut map, columns, line).map_err(|mistake| mistake.at(number))?;
+    }
+    for (line, number) in lines {
+        if !line.trim_end().is_empty() {
+            return Err(Mistake::Long { rows }.at(number));
         }
-        line = line.saturating_add(1);
     }
-    match reader.finish() {
-        Ok(drawing) => Ok(drawing),
-        Err(mistake) => Err(Problem { line, mistake }),
-    }
+    Ok(Drawing { plan, map })
 }

@@ -1,169 +1,137 @@
 // The searches over a drawing, and the lines that say what they came to.
-use crate::drawing::Drawing;
-use crate::{canvas, memory};
-use field::{Field, FieldRefusal};
-use graph::{Fence, Toll};
-use kinds::{Cell, Millis};
-use planner::Planner;
+ghost use Rattle.std.specs.Prelude.{◌≡◌, ◌<◌, false, replicate, unwrap_or, MatchOption};
+
+use crate::canvas::{Canvas, text_of};
+use crate::drawing::{Charge, Drawing, Plan};
+use field::Field;
+use graph::{Fault, Fence, Toll};
+use kinds::{Cell, CostKind, Millis};
 use report::Method;
+use report::memory::{Desk, Memory};
 use search::SeekRefusal;
-use std::io;
-use store::links::Link;
+use std::fmt;
 
 // A field under a fence and a toll.
 type Pile<'a> = Toll<Fence<Field<'a>>, Millis>;
 
-fn millis(millis: u32) -> Millis {
-    Millis { millis }
-}
+// A refusal of a search in words.
+#[derive(Clone, Copy)]
+struct Reason(SeekRefusal);
 
-fn seek(
-    method: Method,
-    planner: &mut Planner<Cell, Millis>,
-    pile: &Pile,
-    start: Cell,
-) -> Result<Option<Millis>, SeekRefusal> {
-    match method {
-        Method::Dijkstra => planner.dijkstra(pile, start),
-        Method::Astar => planner.astar(pile, start),
-    }
-}
-
-fn print_field_refusal(rt: &HostRuntime, refusal: FieldRefusal) -> io::Result<()> {
-    let number = refusal.number();
-    match refusal {
-        FieldRefusal::Size => println!(rt;
-            "field refused {number}: expected 1 to 256 columns, 1 to 128 rows, a step of 1 to 1000, and the target inside"
-        ),
-        FieldRefusal::Length => println!(rt;
-            "field refused {number}: expected one cell for each column of each row"
-        ),
-        FieldRefusal::Byte { position } => println!(rt;
-            "field refused {number}: the cell at position {position} is no zone and not solid"
-        ),
-    }
-}
-
-fn print_refusal(rt: &HostRuntime, name: &str, refusal: SeekRefusal) -> io::Result<()> {
-    let number = refusal.number();
-    match refusal {
-        SeekRefusal::NotHeld => println!(rt;
-            "{name} refused {number}: the start is outside, solid or fenced off"
-        ),
-        SeekRefusal::FaultyRoad { row, fault } => {
-            let rank = fault.rank;
-            let depth = fault.depth;
-            println!(rt;
-                "{name} refused {number}: the toll does not fit, at the planner's row {row}, rank {rank}, depth {depth}"
-            )
-        }
-        SeekRefusal::NoSum { row, rank } => match rank {
-            Some(rank) => println!(rt;
-                "{name} refused {number}: a cost does not fit, at the planner's row {row}, rank {rank}"
+impl fmt::Display for Reason {
+    fn fmt<W: fmt::Write>(&self, f: &mut fmt::Formatter<W>) -> fmt::Result {
+        match self.0 {
+            SeekRefusal::NotHeld => f.write_str("the start is outside, solid or fenced off"),
+            SeekRefusal::FaultyRoad {
+                row,
+                fault: Fault { rank, depth },
+            } => write!(
+                f,
+                "the toll does not fit, at the planner's row {row}, rank {rank}, depth {depth}"
             ),
-            None => println!(rt;
-                "{name} refused {number}: a cost does not fit, at the planner's row {row}"
+            SeekRefusal::NoSum {
+                row,
+                rank: Some(rank),
+            } => write!(
+                f,
+                "a cost does not fit, at the planner's row {row}, rank {rank}"
             ),
-        },
-        SeekRefusal::NoRow { row, rank } => println!(rt;
-            "{name} refused {number}: no row is left, at the planner's row {row}, rank {rank}"
-        ),
-    }
-}
-
-fn print_rows(rt: &HostRuntime, columns: u16, signs: &[char]) -> anyhow::Result<()> {
-    if columns == 0 {
-        return Ok(());
-    }
-    for row in signs.chunks(columns as usize) {
-        rt.println(canvas::text_of(rt.alloc(), row)?)?;
-    }
-    Ok(())
-}
-
-// Prints the route that was found, with its cost.
-fn print_route(
-    rt: &HostRuntime,
-    name: &str,
-    cost: Millis,
-    drawing: &Drawing,
-    planner: &mut Planner<Cell, Millis>,
-    out: &mut [Cell],
-) -> anyhow::Result<()> {
-    match planner.hand_out(out) {
-        Ok(None) => Ok(()),
-        Ok(Some(length)) => {
-            let millis = cost.millis;
-            println!(rt; "{name} {millis}")?;
-            let signs = canvas::signs(rt.alloc(), drawing, &out[0..length])?;
-            print_rows(rt, drawing.plan.layout.columns, signs.as_slice())
-        }
-        Err(refusal) => {
-            let number = refusal.number();
-            println!(rt; "{name} refused {number}")?;
-            Ok(())
-        }
-    }
-}
-
-// Runs one search, and prints what it came to.
-fn report_one(
-    rt: &HostRuntime,
-    method: Method,
-    drawing: &Drawing,
-    pile: &Pile,
-    planner: &mut Planner<Cell, Millis>,
-    out: &mut [Cell],
-) -> anyhow::Result<()> {
-    let name = method.name();
-    match seek(method, planner, pile, drawing.plan.start) {
-        Err(refusal) => {
-            print_refusal(rt, name, refusal)?;
-            Ok(())
-        }
-        Ok(answer) => match answer {
-            None => {
-                println!(rt; "{name} none")?;
-                Ok(())
+            SeekRefusal::NoSum { row, rank: None } => {
+                write!(f, "a cost does not fit, at the planner's row {row}")
             }
-            Some(cost) => print_route(rt, name, cost, drawing, planner, out),
-        },
+            SeekRefusal::NoRow { row, rank } => write!(
+                f,
+                "no row is left, at the planner's row {row}, rank {rank}"
+            ),
+        }
+    }
+}
+
+// The field under the fence and the toll of a plan; no zone is barred or charged where no line says so.
+fn pile<'a>(field: Field<'a>, plan: &Plan) -> Pile<'a>
+    ensures field { result.below.below ≡ field.entry }
+    ensures fence { result.below.barred ≡ unwrap_or plan.now.fence (replicate 64 false) }
+    ensures toll { MatchOption plan.now.toll (result.cost.millis ≡ 0) (λ toll. result.cost ≡ toll.cost) }
+    ensures charged { MatchOption plan.now.toll (result.charged ≡ replicate 64 false) (λ toll. result.charged ≡ toll.zones) }
+{
+    let nowhere = [false; 64];
+    let toll = plan.toll.unwrap_or(Charge {
+        cost: Millis::zero(),
+        zones: nowhere,
+    });
+    Toll::new(
+        Fence::new(field, plan.fence.unwrap_or(nowhere)),
+        toll.cost,
+        toll.zones,
+    )
+}
+
+// A drawing that is searched, and where the lines go that say what the searches come to.
+#[derive(Drop)]
+struct Survey<'a, R> {
+    rt: &'a R,
+    drawing: &'a Drawing,
+    pile: Pile<'a>,
+    ghost wide: { 0 < drawing.now.plan.layout.columns },
+}
+
+impl<R: Print + AllocGlobal> Survey<'_, R> {
+    // Prints a route with its cost.
+    fn print_route(&self, name: &str, cost: Millis, route: &[Cell]) -> anyhow::Result<()> {
+        println!(self.rt; "{name} {cost}")?;
+        let canvas = Canvas::draw(self.rt.alloc(), self.drawing, route)?;
+        for row in canvas.signs.chunks(canvas.columns as usize) {
+            self.rt.println(text_of(self.rt.alloc(), row)?)?;
+        }
+        Ok(())
+    }
+
+    // Runs one search, and prints what it came to.
+    fn report(&self, method: Method, desk: &mut Desk<Cell, Millis>) -> anyhow::Result<()> {
+        let name = method.name();
+        let cost = match method.seek(&mut desk.planner, &self.pile, self.drawing.plan.start) {
+            Ok(Some(cost)) => cost,
+            Ok(None) => return Ok(println!(self.rt; "{name} none")?),
+            Err(refusal) => {
+                let number = u8::from(refusal);
+                let reason = Reason(refusal);
+                return Ok(println!(self.rt; "{name} refused {number}: {reason}")?);
+            }
+        };
+        match desk.planner.hand_out(desk.out) {
+            Ok(Some(length)) => self.print_route(name, cost, &desk.out[..length]),
+            Ok(None) => Ok(()),
+            Err(refusal) => {
+                let number = u8::from(refusal);
+                Ok(println!(self.rt; "{name} refused {number}")?)
+            }
+        }
     }
 }
 
 // Runs all searches over the drawing, and prints what each came to, or that the field is refused.
-pub fn run(rt: &HostRuntime, drawing: &Drawing) -> anyhow::Result<()> {
-    let plan = drawing.plan;
+pub fn run<R: Print + AllocGlobal>(rt: &R, drawing: &Drawing) -> anyhow::Result<()> {
+    let layout = drawing.plan.layout;
     let map = drawing.map.as_slice();
-    if let Err(refusal) = field::check(plan.layout, map) {
-        print_field_refusal(rt, refusal)?;
-        return Ok(());
+    if let Err(refusal) = field::check(layout, map) {
+        let number = u8::from(refusal);
+        return Ok(println!(rt; "field refused {number}: {refusal}")?);
     }
-    let field = Field::make(plan.layout, map);
-    let pile = Toll::new(
-        Fence::new(field, plan.barred),
-        millis(plan.toll),
-        plan.charged,
-    );
-    let mut rows = memory::rows(rt.alloc(), map.len())?;
-    let mut slots = memory::slots(rt.alloc(), map.len())?;
-    let mut cells = memory::nodes(rt.alloc(), map.len())?;
-    let mut links: [Link; 0] = [];
-    if let Err(refusal) = planner::check(rows.len(), slots.len(), links.len()) {
-        let number = refusal.number();
-        println!(rt; "planner refused {number}")?;
-        return Ok(());
-    }
-    let mut planner = Planner::make(rows.as_mut_slice(), slots.as_mut_slice(), &mut links);
+    let mut memory = Memory::new(rt.alloc(), Cell { column: 0, row: 0 }, map.len(), 0)?;
+    let mut desk = match memory.desk() {
+        Ok(desk) => desk,
+        Err(refusal) => {
+            let number = u8::from(refusal);
+            return Ok(println!(rt; "planner refused {number}")?);
+        }
+    };
+    let survey = Survey {
+        rt,
+        drawing,
+        pile: pile(Field::make(layout, map), &drawing.plan),
+    };
     for method in Method::ALL {
-        report_one(
-            rt,
-            method,
-            drawing,
-            &pile,
-            &mut planner,
-            cells.as_mut_slice(),
-        )?;
+        survey.report(method, &mut desk)?;
     }
     Ok(())
 }

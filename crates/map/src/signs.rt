@@ -1,4 +1,4 @@
-// The signs that cells are drawn with.
+// The signs that cells are drawn with. Both ways are functions, since `u8::try_from` of a sign is its number in std.
 ghost use Rattle.std.specs.Prelude.{◌≡◌, IfSome};
 ghost use Rattle.map.specs.Signs.{byte_of, sign_of};
 

@@ -1,4 +1,5 @@
 -- The planner's lists and the definition's: each operation of the one is that of the other.
+use Rattle.std.specs.Option.{option_map}
 use Rattle.std.proofs.Common.{◌≡◌, ℕ, zero, suc, ◌+◌, ◌<◌, ◌≤◌, Bool, true, false, cond, eqb, List, [], ◌∷◌, ◌++◌, map, length, get_or, set, Some, None, Option, sym, refl, ap, ◌∙◌, subst, arith}
 use Rattle.std.proofs.lemmas.Bool.{eqb-true}
 use Rattle.store.specs.Rows.{number_of, later as later₀}
@@ -9,31 +10,14 @@ use Rattle.planner.specs.declared.frontier.Reached.{Reached}
 use Rattle.planner.specs.Views.{rows_of, entry_of, entries_of}
 use Rattle.planner.specs.Good.{Below, Parents}
 
-pub never : (Z : Type 0) → ◌≡◌ {A = ℕ} 0 1 → Z
-never Z e = absurd (omega arith)
-
 map_cond : {X Y : Type 0} (f : X → Y) (b : Bool) (x y : List X) → map f (cond b x y) ≡ cond b (map f x) (map f y)
 map_cond f true x y = refl
 map_cond f false x y = refl
-
-pub set_map : {X Y : Type 0} (f : X → Y) (l : List X) (j : ℕ) (x : X) → set (map f l) j (f x) ≡ map f (set l j x)
-set_map f [] j x = refl
-set_map f (y ∷ l) zero x = refl
-set_map f (y ∷ l) (suc j) x = ap (λ t. f y ∷ t) (set_map f l j x)
-
-pub get_d_map : {X Y : Type 0} (f : X → Y) (l : List X) (j : ℕ) (d : X) (e : Y) → j < length l → get_or (map f l) j e ≡ f (get_or l j d)
-get_d_map f [] j d e h = absurd (omega arith)
-get_d_map f (y ∷ l) zero d e h = refl
-get_d_map f (y ∷ l) (suc j) d e h = get_d_map f l j d e (omega arith)
 
 -- some element of a list that has one
 pub some_of : {X : Type 0} (l : List X) (j : ℕ) → j < length l → X
 some_of [] j h = absurd (omega arith)
 some_of (x ∷ l) j h = x
-
-abbrev pub option_of : {X Y : Type 0} → (X → Y) → Option X → Option Y
-option_of f None = None
-option_of f (Some x) = Some (f x)
 
 later_same : (o : Option ℕ) → later o ≡ later₀ o
 later_same None = refl
@@ -45,14 +29,14 @@ module _ {N C : Type 0} (key : N → ℕ) (weight : C → ℕ) where
   find_rows k (x ∷ l) = ap (λ o. cond (eqb (key x.0) k) (Some 0) o) (ap later (find_rows k l) ∙ later_same (number_of key k l))
 
   pub number_in : (k : ℕ) (l : List (N × Reached C)) (j : ℕ) → number_of key k l ≡ Some j → (j < length l) × ((d : N × Reached C) → key (get_or l j d).0 ≡ k)
-  number_in k [] j e = never _ (cc)
+  number_in k [] j e = cc
   number_in k (x ∷ l) j e = go (eqb (key x.0) k) refl (number_of key k l) (λ i q. number_in k l i q) j e
     where
       go : (b : Bool) → eqb (key x.0) k ≡ b → (o : Option ℕ) → ((i : ℕ) → o ≡ Some i → (i < length l) × ((d : N × Reached C) → key (get_or l i d).0 ≡ k)) → (j : ℕ) → cond b (Some 0) (later₀ o) ≡ Some j → (j < suc (length l)) × ((d : N × Reached C) → key (get_or (x ∷ l) j d).0 ≡ k)
       go true t o f zero e = (omega arith, λ d. eqb-true (key x.0) k t)
-      go true t o f (suc j) e = never _ (let z : 0 ≡ suc j = cc in omega arith)
-      go false t None f j e = never _ (cc)
-      go false t (Some i) f zero e = never _ (let z : i + 1 ≡ 0 = cc in omega arith)
+      go true t o f (suc j) e = let z : 0 ≡ suc j = cc in absurd (omega arith)
+      go false t None f j e = cc
+      go false t (Some i) f zero e = let z : i + 1 ≡ 0 = cc in absurd (omega arith)
       go false t (Some i) f (suc j) e =
           let z : i + 1 ≡ suc j = cc in
           let y : i ≡ j = omega arith in
@@ -70,11 +54,11 @@ module _ {C : Type 0} (weight : C → ℕ) where
   option_cond true x y = refl
   option_cond false x y = refl
 
-  sooner_entries : (x : Waiting C) (o : Option (Waiting C)) → sooner (entry_of weight x) (option_of (entry_of weight) o) ≡ option_of (entry_of weight) (sooner₀ weight x o)
+  sooner_entries : (x : Waiting C) (o : Option (Waiting C)) → sooner (entry_of weight x) (option_map (entry_of weight) o) ≡ option_map (entry_of weight) (sooner₀ weight x o)
   sooner_entries x None = refl
   sooner_entries x (Some y) = ap Some (sym (option_cond (overtakes₀ weight y x) x y))
 
-  pub first_entries : (q : List (Waiting C)) → first_out (entries_of weight q) ≡ option_of (entry_of weight) (firstOut₀ weight q)
+  pub first_entries : (q : List (Waiting C)) → first_out (entries_of weight q) ≡ option_map (entry_of weight) (firstOut₀ weight q)
   first_entries [] = refl
   first_entries (x ∷ q) = ap (sooner (entry_of weight x)) (first_entries q) ∙ sooner_entries x (firstOut₀ weight q)
 
@@ -95,7 +79,7 @@ module _ {C : Type 0} (weight : C → ℕ) where
   below_push n (y ∷ q) x b h = (b.0, below_push n q x b.1 h)
 
   pub below_first : (n : ℕ) (q : List (Waiting C)) (x : Waiting C) → Below n q → firstOut₀ weight q ≡ Some x → x.0 < n
-  below_first n [] x b e = never _ (cc)
+  below_first n [] x b e = cc
   below_first n (y ∷ q) x b e = go (firstOut₀ weight q) (λ z f. below_first n q z b.1 f) e
     where
       pick : (t : Bool) (z : Waiting C) → z.0 < n → cond t z y ≡ x → x.0 < n

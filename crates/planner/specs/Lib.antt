@@ -1,3 +1,4 @@
+pub mod Standing
 pub mod Views
 pub mod Good
 pub mod Making

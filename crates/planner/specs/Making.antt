@@ -1,5 +1,6 @@
--- Over which memory a planner can be made.
-use Rattle.std.specs.Prelude.{ℕ, Bool, false, cond, ◌==◌, nat_le, nat_lt}
+-- Over which memory a planner can be made, and what it then holds.
+use Rattle.std.specs.Prelude.{ℕ, Bool, false, cond, [], ◌==◌, nat_le, nat_lt}
+use Rattle.search.specs.Calls.{Held}
 use Rattle.planner.specs.declared.refusal.MakeRefusal.{MakeRefusal}
 use Rattle.planner.specs.declared.refusal.MakeRefusal.TheVariants.{Counts}
 
@@ -11,3 +12,7 @@ sizes_fit rows slots links =
 -- the number of the refusal
 abbrev pub make_number : MakeRefusal → ℕ
 make_number Counts = 1
+
+-- a planner that was made over so many rows and links has nothing to hand out
+abbrev pub made_over : (rows links : ℕ) → Held
+made_over rows links = record { capacity = record { rows = rows; links = links }; pending = [] }

@@ -1,17 +1,17 @@
 -- What the planner's memory stands for.
 use Rattle.std.specs.Prelude.{ℕ, ◌<◌, List, [], ◌∷◌, map, length, Some, None, Ok, Err, Option, Result as Outcomes}
-use Rattle.store.specs.Registers.{listed, room}
-use Rattle.store.specs.Heaps.{waits}
+use Rattle.std.specs.declared.ops.ControlFlow.{ControlFlow}
+use Rattle.std.specs.declared.ops.ControlFlow.TheVariants.{Continue, Break}
+use Rattle.store.specs.Registers.{Listing}
+use Rattle.store.specs.Heaps.{Waits}
 use Rattle.store.specs.Queue.{Waiting}
 use Rattle.search.specs.declared.refusal.SeekRefusal.{SeekRefusal}
 use Rattle.search.specs.Rows.{Row, walk}
 use Rattle.search.specs.Queue.{Entry}
 use Rattle.search.specs.Outcome.{Outcome, stopped, none, found}
-use Rattle.search.specs.Machine.{State, Result, fine, refused, Turned as Turns, more, done}
-use Rattle.planner.specs.declared.frontier.Turned.{Turned}
-use Rattle.planner.specs.declared.frontier.Turned.TheVariants.{More, Found, Empty}
+use Rattle.search.specs.Machine.{State, Result, fine, refused, Turned, more, done}
 use Rattle.planner.specs.declared.frontier.Reached.{Reached}
-use Rattle.planner.specs.declared.frontier.Frontier.{Frontier}
+use Rattle.planner.specs.Standing.{Standing}
 
 abbrev pub row_of : {N C : Type 0} → (N → ℕ) → (C → ℕ) → N × Reached C → Row
 row_of key weight x = record { key = key x.0; cost = weight x.1.cost; parent = x.1.parent }
@@ -25,14 +25,10 @@ rows_of key weight l = map (row_of key weight) l
 abbrev pub entries_of : {C : Type 0} → (C → ℕ) → List (Waiting C) → List Entry
 entries_of weight q = map (entry_of weight) q
 
-abbrev pub state_of : {N C : Type 0} → (N → ℕ) → (C → ℕ) → Frontier N C → State
-state_of key weight f = record { rows = rows_of key weight (listed f.register); heap = entries_of weight (waits f.heap) }
-
-abbrev pub size : {N C : Type 0} → Frontier N C → ℕ
-size f = length (listed f.register)
-
-abbrev pub capacity : {N C : Type 0} → Frontier N C → ℕ
-capacity f = room f.register
+-- what a register and a heap stand for
+abbrev pub standing : {N C : Type 0} → (N → ℕ) → (C → ℕ) → Listing N (Reached C) → Waits C → Standing
+standing key weight r h =
+    record { state = record { rows = rows_of key weight r.listed; heap = entries_of weight h.waits }; capacity = r.room }
 
 -- what a step answered, with the state that it left
 abbrev pub result_of : Outcomes (Unit {0}) SeekRefusal → State → Result
@@ -43,27 +39,32 @@ result_of (Err e) s = refused e
 abbrev pub route_to : List Row → ℕ → List (List ℕ)
 route_to rows j = walk (length rows) rows j [] ∷ []
 
+-- what a search that ended came to, with the rows that it left: the goal's row and its cost, or no route
+abbrev pub ending : {C : Type 0} → (C → ℕ) → Option (ℕ × C) → State → Outcome
+ending weight (Some x) s = found (weight x.1) (route_to s.rows x.0)
+ending weight None s = none
+
 -- what a turn answered, with the state that it left
-abbrev pub turned_of : {C : Type 0} → (C → ℕ) → Outcomes (Turned C) SeekRefusal → State → Turns
-turned_of weight (Ok More) s = more s
-turned_of weight (Ok (Found j c)) s = done (found (weight c) (route_to s.rows j))
-turned_of weight (Ok Empty) s = done none
+abbrev pub turned_of : {C : Type 0} → (C → ℕ) → Outcomes (ControlFlow (Option (ℕ × C)) (Unit {0})) SeekRefusal → State → Turned
+turned_of weight (Ok (Continue u)) s = more s
+turned_of weight (Ok (Break o)) s = done (ending weight o s)
 turned_of weight (Err e) s = done (stopped e)
 
--- what a run answered, with the rows that it left
+-- what a run answered, with the state that it left
 abbrev pub end_of : {C : Type 0} → (C → ℕ) → Outcomes (Option (ℕ × C)) SeekRefusal → State → Outcome
-end_of weight (Ok (Some x)) s = found (weight x.1) (route_to s.rows x.0)
-end_of weight (Ok None) s = none
+end_of weight (Ok o) s = ending weight o s
 end_of weight (Err e) s = stopped e
 
 -- the goal's row is one of the first n
-abbrev pub found_in : {C : Type 0} → Outcomes (Turned C) SeekRefusal → ℕ → Type 0
-found_in (Ok More) n = Unit {0}
-found_in (Ok (Found j c)) n = j < n
-found_in (Ok Empty) n = Unit {0}
+abbrev pub goal_in : {C : Type 0} → Option (ℕ × C) → ℕ → Type 0
+goal_in (Some x) n = x.0 < n
+goal_in None n = Unit {0}
+
+abbrev pub found_in : {C : Type 0} → Outcomes (ControlFlow (Option (ℕ × C)) (Unit {0})) SeekRefusal → ℕ → Type 0
+found_in (Ok (Continue u)) n = Unit {0}
+found_in (Ok (Break o)) n = goal_in o n
 found_in (Err e) n = Unit {0}
 
 abbrev pub ended_in : {C : Type 0} → Outcomes (Option (ℕ × C)) SeekRefusal → ℕ → Type 0
-ended_in (Ok (Some x)) n = x.0 < n
-ended_in (Ok None) n = Unit {0}
+ended_in (Ok o) n = goal_in o n
 ended_in (Err e) n = Unit {0}

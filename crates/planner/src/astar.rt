@@ -1,9 +1,7 @@
 // astar: the least sum of cost and guess comes first.
-ghost use Rattle.kinds.specs.Kind.{kind};
-ghost use Rattle.graph.specs.Meaning.{meaning};
 ghost use Rattle.search.specs.Answers.{astar as method};
 ghost use Rattle.search.specs.Calls.{Call, sought};
-ghost use Rattle.planner.specs.Pending.{held_of, answer_of};
+ghost use Rattle.planner.specs.Pending.{answer_of};
 
 use crate::planner_type::Planner;
 use graph::Graph;
@@ -17,7 +15,7 @@ impl<'a, N: NodeKind, C: CostKind> Planner<'a, N, C> {
         graph: &G,
         start: N,
     ) -> Result<Option<C>, SeekRefusal>
-        ensures { Call (kind C.CostKind.fits C.CostKind.greatest) (held_of N.NodeKind.key C.CostKind.weight self.old) (sought method (meaning G.Graph.holds G.Graph.zones G.Graph.counts G.Graph.roads G.Graph.goals graph.now) (G.Graph.guesses graph.now) (N.NodeKind.key start) (answer_of C.CostKind.weight result)) (held_of N.NodeKind.key C.CostKind.weight self.new) }
+        ensures { Call C.kind self.old (sought method (G.means graph.now) (G.guesses graph.now) (N.key start) (answer_of C.weight result)) self.new }
     {
         self.seek(graph, start)
     }

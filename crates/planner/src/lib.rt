@@ -16,7 +16,7 @@ mod turns;
 pub mod twice;
 
 pub use frontier::Reached;
-pub use make::check;
+pub use make::{Lent, check};
 pub use planner_type::Planner;
 pub use refusal::MakeRefusal;
 pub use twice::{TwoSeeks, plan_twice};

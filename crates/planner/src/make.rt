@@ -1,11 +1,8 @@
-// The making of a planner, in two calls: one checks, one makes.
-ghost use Rattle.std.specs.Prelude.{◌≡◌, true, [], length, if◌then◌else◌, Ok, Err};
-ghost use Rattle.kinds.specs.Kind.{kind};
-ghost use Rattle.search.specs.Calls.{Held};
+// The making of a planner: in two calls, of which one checks and one makes, or in one.
+ghost use Rattle.std.specs.Prelude.{◌≡◌, true, false, [], length, if◌then◌else◌, Ok, Err, MatchResult};
 ghost use Rattle.search.specs.History.{History, Law};
 ghost use Rattle.planner.specs.declared.refusal.MakeRefusal.TheVariants.{Counts};
-ghost use Rattle.planner.specs.Making.{sizes_fit};
-ghost use Rattle.planner.specs.Pending.{held_of};
+ghost use Rattle.planner.specs.Making.{sizes_fit, made_over};
 
 use crate::frontier::{Frontier, Reached};
 use crate::planner_type::Planner;
@@ -15,33 +12,46 @@ use store::links::{Link, Links};
 use store::rows::Row;
 use store::slots::Slot;
 
+// Memory that is lent to a planner: rows, a slot for each, and links.
+#[derive(Drop)]
+pub struct Lent<'a, N, C> {
+    pub rows: &'a mut [Row<N, Reached<C>>],
+    pub slots: &'a mut [Slot<C>],
+    pub links: &'a mut [Link],
+}
+
 // Whether a planner can be made over so many rows, slots for them, and links.
 pub fn check(rows: usize, slots: usize, links: usize) -> Result<(), MakeRefusal>
     ensures { result ≡ (if sizes_fit rows slots links then Ok tt else Err Counts) }
 {
-    if rows < 1 || rows > 32768 || slots != rows || links > 65535 {
+    if !(1..=32768).contains(&rows) || slots != rows || links > 65535 {
         return Err(MakeRefusal::Counts);
     }
     Ok(())
 }
 
 impl<'a, N: NodeKind, C: CostKind> Planner<'a, N, C> {
-    // A planner over these rows and links, with nothing to hand out. What they hold beforehand does not matter. With it a
+    // A planner over this memory, with nothing to hand out. What the memory holds beforehand does not matter. With it a
     // history begins, and the law holds of every history.
-    pub fn make(
-        rows: &'a mut [Row<N, Reached<C>>],
-        slots: &'a mut [Slot<C>],
-        links: &'a mut [Link],
-    ) -> Planner<'a, N, C>
-        requires { sizes_fit (length rows.old) (length slots.old) (length links.old) ≡ true }
-        ensures law { Law (kind C.CostKind.fits C.CostKind.greatest) }
-        ensures begins { History (kind C.CostKind.fits C.CostKind.greatest) [] (held_of N.NodeKind.key C.CostKind.weight result) }
-        ensures held { held_of N.NodeKind.key C.CostKind.weight result ≡ record { capacity = record { rows = length rows.old; links = length links.old }; pending = [] } }
+    pub fn make(lent: Lent<'a, N, C>) -> Planner<'a, N, C>
+        requires { sizes_fit (length lent.rows.now) (length lent.slots.now) (length lent.links.now) ≡ true }
+        ensures law { Law C.kind }
+        ensures begins { History C.kind [] result }
+        ensures held { result ≡ made_over (length lent.entry.rows.now) (length lent.entry.links.now) }
     {
         Planner {
-            frontier: Frontier::over(rows, slots),
+            frontier: Frontier::over(lent.rows, lent.slots),
             sink: None,
-            links: Links::new(links),
+            links: Links::new(lent.links),
         }
+    }
+
+    // The same, where a planner can be made over this memory.
+    pub fn new(lent: Lent<'a, N, C>) -> Result<Planner<'a, N, C>, MakeRefusal>
+        ensures law { Law C.kind }
+        ensures made { MatchResult result (λ p. (sizes_fit (length lent.entry.rows.now) (length lent.entry.slots.now) (length lent.entry.links.now) ≡ true) × History C.kind [] p × (p ≡ made_over (length lent.entry.rows.now) (length lent.entry.links.now))) (λ e. (sizes_fit (length lent.entry.rows.now) (length lent.entry.slots.now) (length lent.entry.links.now) ≡ false) × (e ≡ Counts)) }
+    {
+        check(lent.rows.len(), lent.slots.len(), lent.links.len())?;
+        Ok(Planner::make(lent))
     }
 }

@@ -1,17 +1,32 @@
-// One road of a row that was taken out.
-ghost use Rattle.std.specs.Prelude.{◌≡◌, ℕ, ◌+◌, ◌<◌, ◌≤◌, true, length, if◌then◌else◌, Some, None, nat_lt};
-ghost use Rattle.kinds.specs.Kind.{kind, sum_of};
-ghost use Rattle.graph.specs.Meaning.{meaning};
-ghost use Rattle.store.specs.Registers.{listed};
-ghost use Rattle.store.specs.Rows.{number_of};
-ghost use Rattle.search.specs.Machine.{pushed, fresh, known, arrive, summed, relax as relaxed};
-ghost use Rattle.planner.specs.Views.{state_of, result_of, capacity, size};
-ghost use Rattle.planner.specs.Good.{Good, After};
+// One road of a row that was taken out. Each step says `After`, which is about two moments and so can stand in no type.
+ghost use Rattle.std.specs.Prelude.{◌≡◌, ◌+◌, ◌<◌, true, length, if◌then◌else◌, Some, None, nat_lt};
+ghost use Rattle.kinds.specs.Kind.{sum_of};
+ghost use Rattle.search.specs.Rows.{find};
+ghost use Rattle.search.specs.Machine.{pushed, fresh, arrive, summed, relax as relaxed};
+ghost use Rattle.planner.specs.Standing.{After};
+ghost use Rattle.planner.specs.Views.{result_of};
 
 use crate::frontier::{Frontier, Reached};
 use graph::Graph;
 use kinds::{CostKind, NodeKind};
-use search::refusal::SeekRefusal;
+use search::SeekRefusal;
+
+// A row that was taken out, with its node and the cost that it was reached at.
+#[derive(Clone, Copy)]
+pub(crate) struct Taken<N, C> {
+    pub(crate) row: u16,
+    pub(crate) node: N,
+    pub(crate) cost: C,
+}
+
+// An open road: the row that it leaves, its rank, the node that it leads to, and the sum of costs there.
+#[derive(Clone, Copy)]
+pub(crate) struct Open<N, C> {
+    row: u16,
+    rank: u16,
+    node: N,
+    sum: C,
+}
 
 // A sum of costs with the guess of the cost ahead of a node.
 fn estimate<N: NodeKind, C: CostKind, G: Graph<Node = N, Cost = C>>(
@@ -19,151 +34,131 @@ fn estimate<N: NodeKind, C: CostKind, G: Graph<Node = N, Cost = C>>(
     node: N,
     sum: C,
 ) -> Option<C>
-    ensures { sum_of C.CostKind.weight result ≡ (if C.CostKind.fits (C.CostKind.weight sum) (G.Graph.guesses graph.now (N.NodeKind.key node)) then Some (C.CostKind.weight sum + G.Graph.guesses graph.now (N.NodeKind.key node)) else None) }
+    ensures { sum_of C.weight result ≡ (if C.kind.fits (C.weight sum) (G.guesses graph.now (N.key node)) then Some (C.weight sum + G.guesses graph.now (N.key node)) else None) }
 {
     sum.sum(graph.guess(&node))
 }
 
 // Whether a sum is less than the cost so far.
 fn undercuts<C: CostKind>(sum: C, cost: C) -> bool
-    ensures { result ≡ nat_lt (C.CostKind.weight sum) (C.CostKind.weight cost) }
+    ensures { result ≡ nat_lt (C.weight sum) (C.weight cost) }
 {
-    sum.less(&cost)
+    sum < cost
 }
 
 impl<'a, N: NodeKind, C: CostKind> Frontier<'a, N, C> {
-    // Row `at`, of this node and cost, enters the heap in place of its older entry.
+    // Row `at`, that of the road's end, enters the heap in place of its older entry.
     fn enter<G: Graph<Node = N, Cost = C>>(
         &mut self,
         graph: &G,
-        row: u16,
-        rank: u16,
+        road: Open<N, C>,
         at: u16,
-        node: N,
-        sum: C,
     ) -> Result<(), SeekRefusal>
-        requires good { Good N.NodeKind.key N.NodeKind.marks C.CostKind.weight self.old }
-        requires inside { at < size self.old }
-        ensures after { After N.NodeKind.key N.NodeKind.marks C.CostKind.weight self.old self.new }
-        ensures answer { result_of result (state_of N.NodeKind.key C.CostKind.weight self.new) ≡ pushed (kind C.CostKind.fits C.CostKind.greatest) (meaning G.Graph.holds G.Graph.zones G.Graph.counts G.Graph.roads G.Graph.goals graph.now) (G.Graph.guesses graph.now) (capacity self.old) (C.CostKind.fits (C.CostKind.weight sum) (G.Graph.guesses graph.now (N.NodeKind.key node))) row rank (N.NodeKind.key node) (C.CostKind.weight sum) at (state_of N.NodeKind.key C.CostKind.weight self.old) }
+        requires inside { at < length self.old.state.rows }
+        ensures after { After self.old self.new }
+        ensures answer { result_of result self.new.state ≡ pushed C.kind (G.means graph.now) (G.guesses graph.now) self.old.capacity (C.kind.fits (C.weight road.sum) (G.guesses graph.now (N.key road.node))) road.row road.rank (N.key road.node) (C.weight road.sum) at self.old.state }
     {
-        match estimate(graph, node, sum) {
-            None => Err(SeekRefusal::NoSum {
-                row,
-                rank: Some(rank),
-            }),
-            Some(total) => {
-                self.heap.push(at, total, sum);
-                Ok(())
-            }
-        }
+        let total = estimate(graph, road.node, road.sum).ok_or(SeekRefusal::NoSum {
+            row: road.row,
+            rank: Some(road.rank),
+        })?;
+        self.heap.push(at, total, road.sum);
+        Ok(())
     }
 
-    // A node that has no row yet.
+    // The road leads to a node that has no row yet.
     fn found_new<G: Graph<Node = N, Cost = C>>(
         &mut self,
         graph: &G,
-        row: u16,
-        rank: u16,
-        node: N,
-        sum: C,
+        road: Open<N, C>,
     ) -> Result<(), SeekRefusal>
-        requires good { Good N.NodeKind.key N.NodeKind.marks C.CostKind.weight self.old }
-        requires inside { row < size self.old }
-        requires fresh { number_of N.NodeKind.key (N.NodeKind.key node) (listed self.old.register) ≡ None }
-        ensures after { After N.NodeKind.key N.NodeKind.marks C.CostKind.weight self.old self.new }
-        ensures answer { result_of result (state_of N.NodeKind.key C.CostKind.weight self.new) ≡ fresh (kind C.CostKind.fits C.CostKind.greatest) (meaning G.Graph.holds G.Graph.zones G.Graph.counts G.Graph.roads G.Graph.goals graph.now) (G.Graph.guesses graph.now) (capacity self.old) (nat_lt (size self.old) (capacity self.old)) row rank (N.NodeKind.key node) (C.CostKind.weight sum) (state_of N.NodeKind.key C.CostKind.weight self.old) }
+        requires inside { road.row < length self.old.state.rows }
+        requires fresh { find (N.key road.node) self.old.state.rows ≡ None }
+        ensures after { After self.old self.new }
+        ensures answer { result_of result self.new.state ≡ fresh C.kind (G.means graph.now) (G.guesses graph.now) self.old.capacity (nat_lt (length self.old.state.rows) self.old.capacity) road.row road.rank (N.key road.node) (C.weight road.sum) self.old.state }
     {
-        match self.register.add(
-            node,
-            Reached {
-                cost: sum,
-                parent: row,
-            },
-        ) {
-            None => Err(SeekRefusal::NoRow { row, rank }),
-            Some(at) => self.enter(graph, row, rank, at, node, sum),
-        }
+        let reached = Reached {
+            cost: road.sum,
+            parent: road.row,
+        };
+        let at = self
+            .register
+            .add(road.node, reached)
+            .ok_or(SeekRefusal::NoRow {
+                row: road.row,
+                rank: road.rank,
+            })?;
+        self.enter(graph, road, at)
     }
 
-    // A node that has row `at`.
+    // The road leads to a node that has row `at`.
     fn found_again<G: Graph<Node = N, Cost = C>>(
         &mut self,
         graph: &G,
-        row: u16,
-        rank: u16,
+        road: Open<N, C>,
         at: u16,
-        node: N,
-        sum: C,
     ) -> Result<(), SeekRefusal>
-        requires good { Good N.NodeKind.key N.NodeKind.marks C.CostKind.weight self.old }
-        requires inside { row < size self.old }
-        requires there { number_of N.NodeKind.key (N.NodeKind.key node) (listed self.old.register) ≡ Some at }
-        ensures after { After N.NodeKind.key N.NodeKind.marks C.CostKind.weight self.old self.new }
-        ensures answer { result_of result (state_of N.NodeKind.key C.CostKind.weight self.new) ≡ arrive (kind C.CostKind.fits C.CostKind.greatest) (meaning G.Graph.holds G.Graph.zones G.Graph.counts G.Graph.roads G.Graph.goals graph.now) (G.Graph.guesses graph.now) (capacity self.old) (Some at) row rank (N.NodeKind.key node) (C.CostKind.weight sum) (state_of N.NodeKind.key C.CostKind.weight self.old) }
+        requires inside { road.row < length self.old.state.rows }
+        requires there { find (N.key road.node) self.old.state.rows ≡ Some at }
+        ensures after { After self.old self.new }
+        ensures answer { result_of result self.new.state ≡ arrive C.kind (G.means graph.now) (G.guesses graph.now) self.old.capacity (Some at) road.row road.rank (N.key road.node) (C.weight road.sum) self.old.state }
     {
-        let old = self.register.value(at);
-        if undercuts(sum, old.cost) {
-            self.register.set_value(
-                at,
-                Reached {
-                    cost: sum,
-                    parent: row,
-                },
-            );
-            self.enter(graph, row, rank, at, node, sum)
-        } else {
-            Ok(())
+        if !undercuts(road.sum, self.register.value(at).cost) {
+            return Ok(());
         }
+        let reached = Reached {
+            cost: road.sum,
+            parent: road.row,
+        };
+        self.register.set_value(at, reached);
+        self.enter(graph, road, at)
     }
 
-    // A node that a road leads to, at the sum.
+    // The node that an open road leads to, at the sum of costs there.
     fn arrive<G: Graph<Node = N, Cost = C>>(
         &mut self,
         graph: &G,
-        row: u16,
-        rank: u16,
-        node: N,
-        sum: C,
+        road: Open<N, C>,
     ) -> Result<(), SeekRefusal>
-        requires good { Good N.NodeKind.key N.NodeKind.marks C.CostKind.weight self.old }
-        requires inside { row < size self.old }
-        ensures after { After N.NodeKind.key N.NodeKind.marks C.CostKind.weight self.old self.new }
-        ensures answer { result_of result (state_of N.NodeKind.key C.CostKind.weight self.new) ≡ summed (kind C.CostKind.fits C.CostKind.greatest) (meaning G.Graph.holds G.Graph.zones G.Graph.counts G.Graph.roads G.Graph.goals graph.now) (G.Graph.guesses graph.now) (capacity self.old) true row rank (N.NodeKind.key node) (C.CostKind.weight sum) (state_of N.NodeKind.key C.CostKind.weight self.old) }
+        requires { road.row < length self.old.state.rows }
+        ensures after { After self.old self.new }
+        ensures answer { result_of result self.new.state ≡ summed C.kind (G.means graph.now) (G.guesses graph.now) self.old.capacity true road.row road.rank (N.key road.node) (C.weight road.sum) self.old.state }
     {
-        match self.register.find(&node) {
-            None => self.found_new(graph, row, rank, node, sum),
-            Some(at) => self.found_again(graph, row, rank, at, node, sum),
+        match self.register.find(&road.node) {
+            None => self.found_new(graph, road),
+            Some(at) => self.found_again(graph, road, at),
         }
     }
 
-    // The road of a rank of a row's node, which was reached at this cost.
+    // The road of a rank of a row that was taken out.
     pub(crate) fn relax<G: Graph<Node = N, Cost = C>>(
         &mut self,
         graph: &G,
-        row: u16,
-        node: N,
-        cost: C,
+        taken: Taken<N, C>,
         rank: u16,
     ) -> Result<(), SeekRefusal>
-        requires good { Good N.NodeKind.key N.NodeKind.marks C.CostKind.weight self.old }
-        requires inside { row < size self.old }
-        ensures after { After N.NodeKind.key N.NodeKind.marks C.CostKind.weight self.old self.new }
-        ensures answer { result_of result (state_of N.NodeKind.key C.CostKind.weight self.new) ≡ relaxed (kind C.CostKind.fits C.CostKind.greatest) (meaning G.Graph.holds G.Graph.zones G.Graph.counts G.Graph.roads G.Graph.goals graph.now) (G.Graph.guesses graph.now) (capacity self.old) row (C.CostKind.weight cost) rank (G.Graph.roads graph.now (N.NodeKind.key node) rank) (state_of N.NodeKind.key C.CostKind.weight self.old) }
+        requires { taken.row < length self.old.state.rows }
+        ensures after { After self.old self.new }
+        ensures answer { result_of result self.new.state ≡ relaxed C.kind (G.means graph.now) (G.guesses graph.now) self.old.capacity taken.row (C.weight taken.cost) rank ((G.means graph.now).road (N.key taken.node) rank) self.old.state }
     {
-        match graph.road(&node, rank) {
+        let row = taken.row;
+        // Matches: with `map_err`, `ok_or` and `?` here, searches took up to twice as long (docs/BENCHMARKS.md).
+        match graph.road(&taken.node, rank) {
             Err(fault) => Err(SeekRefusal::FaultyRoad { row, fault }),
-            Ok(road) => match road {
-                None => Ok(()),
-                Some(open) => {
-                    let (next, step) = open;
-                    match cost.sum(step) {
-                        None => Err(SeekRefusal::NoSum {
-                            row,
-                            rank: Some(rank),
-                        }),
-                        Some(sum) => self.arrive(graph, row, rank, next, sum),
-                    }
+            Ok(None) => Ok(()),
+            Ok(Some((node, step))) => match taken.cost.sum(step) {
+                None => Err(SeekRefusal::NoSum {
+                    row,
+                    rank: Some(rank),
+                }),
+                Some(sum) => {
+                    let road = Open {
+                        row,
+                        rank,
+                        node,
+                        sum,
+                    };
+                    self.arrive(graph, road)
                 }
             },
         }

@@ -1,9 +1,6 @@
 // The way back from a row to row 0.
-ghost use Rattle.std.specs.Prelude.{◌≡◌, ℕ, ◌<◌, ◌≤◌, [], map, length, take, drop};
-ghost use Rattle.store.specs.Registers.{listed, Fits};
+ghost use Rattle.std.specs.Prelude.{◌≡◌, ◌<◌, [], map, length};
 ghost use Rattle.search.specs.Rows.{walk};
-ghost use Rattle.planner.specs.Views.{rows_of, size};
-ghost use Rattle.planner.specs.Good.{Inward};
 
 use crate::frontier::Frontier;
 use kinds::{CostKind, NodeKind};
@@ -11,37 +8,31 @@ use kinds::{CostKind, NodeKind};
 impl<'a, N: NodeKind, C: CostKind> Frontier<'a, N, C> {
     // How many rows it has.
     pub(crate) fn depth(&self, row: u16) -> usize
-        requires fits { Fits self.now.register }
-        requires inward { Inward self.now }
-        requires inside { row < size self.now }
-        ensures { result ≡ length (walk (size self.now) (rows_of N.NodeKind.key C.CostKind.weight (listed self.now.register)) row []) }
+        requires { row < length self.now.state.rows }
+        ensures { result ≡ length (walk (length self.now.state.rows) self.now.state.rows row []) }
     {
         let all = self.register.len();
-        let mut n: usize = 1;
-        let mut i = row;
-        while i != 0 && n < all {
-            i = self.register.value(i).parent;
-            n += 1;
+        let mut at = row;
+        for depth in 1..all {
+            if at == 0 {
+                return depth;
+            }
+            at = self.register.value(at).parent;
         }
-        n
+        all
     }
 
     // Writes its nodes, row 0 first.
-    pub(crate) fn write_back(&self, row: u16, n: usize, out: &mut [N])
-        requires fits { Fits self.now.register }
-        requires inward { Inward self.now }
-        requires inside { row < size self.now }
-        requires long { n ≡ length (walk (size self.now) (rows_of N.NodeKind.key C.CostKind.weight (listed self.now.register)) row []) }
-        requires room { n ≤ length out.old }
-        ensures keys { map N.NodeKind.key (take n out.new) ≡ walk (size self.now) (rows_of N.NodeKind.key C.CostKind.weight (listed self.now.register)) row [] }
-        ensures rest { drop n out.new ≡ drop n out.old }
+    pub(crate) fn write_back(&self, row: u16, out: &mut [N])
+        requires inside { row < length self.now.state.rows }
+        requires long { length out.old ≡ length (walk (length self.now.state.rows) self.now.state.rows row []) }
+        ensures { map N.key out.new ≡ walk (length self.now.state.rows) self.now.state.rows row [] }
     {
-        let mut at = n;
-        let mut i = row;
-        while at > 0 {
-            at -= 1;
-            out[at] = self.register.node(i);
-            i = self.register.value(i).parent;
+        let mut at = row;
+        // By places: an invariant over a reversed `iter_mut` cannot speak of what `out` holds.
+        for place in (0..out.len()).rev() {
+            out[place] = self.register.node(at);
+            at = self.register.value(at).parent;
         }
     }
 }

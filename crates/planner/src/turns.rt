@@ -1,58 +1,55 @@
 // The turns of a search, up to its end.
-ghost use Rattle.std.specs.Prelude.{◌≡◌, ℕ, ◌+◌, ◌<◌, ◌≤◌};
-ghost use Rattle.kinds.specs.Kind.{kind};
-ghost use Rattle.graph.specs.Meaning.{meaning};
+ghost use Rattle.std.specs.Prelude.{◌≡◌, ◌<◌, length};
 ghost use Rattle.search.specs.Queue.{first_out};
 ghost use Rattle.search.specs.Machine.{along, turn as turns, Ends};
-ghost use Rattle.planner.specs.Views.{state_of, result_of, turned_of, end_of, found_in, ended_in, capacity, size};
-ghost use Rattle.planner.specs.Good.{Good, After};
+ghost use Rattle.planner.specs.Standing.{After};
+ghost use Rattle.planner.specs.Views.{result_of, turned_of, end_of, found_in, ended_in};
 
-use crate::frontier::{Frontier, Turned};
+use crate::frontier::Frontier;
+use crate::relax::Taken;
 use graph::Graph;
 use kinds::{CostKind, NodeKind};
-use search::refusal::SeekRefusal;
+use search::SeekRefusal;
+use std::ops::ControlFlow;
 
 impl<'a, N: NodeKind, C: CostKind> Frontier<'a, N, C> {
-    // The roads of a row, in the order of their ranks.
+    // The roads of a row that was taken out, in the order of their ranks.
     fn expand<G: Graph<Node = N, Cost = C>>(
         &mut self,
         graph: &G,
-        row: u16,
-        node: N,
-        cost: C,
+        taken: Taken<N, C>,
     ) -> Result<(), SeekRefusal>
-        requires good { Good N.NodeKind.key N.NodeKind.marks C.CostKind.weight self.old }
-        requires inside { row < size self.old }
-        ensures after { After N.NodeKind.key N.NodeKind.marks C.CostKind.weight self.old self.new }
-        ensures answer { result_of result (state_of N.NodeKind.key C.CostKind.weight self.new) ≡ along (kind C.CostKind.fits C.CostKind.greatest) (meaning G.Graph.holds G.Graph.zones G.Graph.counts G.Graph.roads G.Graph.goals graph.now) (G.Graph.guesses graph.now) (capacity self.old) row (N.NodeKind.key node) (C.CostKind.weight cost) (G.Graph.counts graph.now (N.NodeKind.key node)) 0 (state_of N.NodeKind.key C.CostKind.weight self.old) }
+        requires { taken.row < length self.old.state.rows }
+        ensures after { After self.old self.new }
+        ensures answer { result_of result self.new.state ≡ along C.kind (G.means graph.now) (G.guesses graph.now) self.old.capacity taken.row (N.key taken.node) (C.weight taken.cost) ((G.means graph.now).count (N.key taken.node)) 0 self.old.state }
     {
-        let count = graph.road_count(&node);
+        let count = graph.road_count(&taken.node);
         for rank in 0..count {
-            self.relax(graph, row, node, cost, rank)?;
+            self.relax(graph, taken, rank)?;
         }
         Ok(())
     }
 
-    // Takes the first out: a goal ends the search, and the roads of another row are followed.
-    fn turn<G: Graph<Node = N, Cost = C>>(&mut self, graph: &G) -> Result<Turned<C>, SeekRefusal>
-        requires { Good N.NodeKind.key N.NodeKind.marks C.CostKind.weight self.old }
-        ensures after { After N.NodeKind.key N.NodeKind.marks C.CostKind.weight self.old self.new }
-        ensures inside { found_in result (size self.new) }
-        ensures answer { turned_of C.CostKind.weight result (state_of N.NodeKind.key C.CostKind.weight self.new) ≡ turns (kind C.CostKind.fits C.CostKind.greatest) (meaning G.Graph.holds G.Graph.zones G.Graph.counts G.Graph.roads G.Graph.goals graph.now) (G.Graph.guesses graph.now) (capacity self.old) (first_out (state_of N.NodeKind.key C.CostKind.weight self.old).heap) (state_of N.NodeKind.key C.CostKind.weight self.old) }
+    // Takes the first out: a goal ends the search, and the roads of another row are followed. The search ends too where
+    // none waits.
+    fn turn<G: Graph<Node = N, Cost = C>>(
+        &mut self,
+        graph: &G,
+    ) -> Result<ControlFlow<Option<(u16, C)>>, SeekRefusal>
+        ensures after { After self.old self.new }
+        ensures inside { found_in result (length self.new.state.rows) }
+        ensures answer { turned_of C.weight result self.new.state ≡ turns C.kind (G.means graph.now) (G.guesses graph.now) self.old.capacity (first_out self.old.state.heap) self.old.state }
     {
-        match self.heap.pop() {
-            None => Ok(Turned::Empty),
-            Some(first) => {
-                let row = first.0;
-                let node = self.register.node(row);
-                let reached = self.register.value(row);
-                if graph.goal(&node) {
-                    return Ok(Turned::Found(row, reached.cost));
-                }
-                self.expand(graph, row, node, reached.cost)?;
-                Ok(Turned::More)
-            }
+        let Some((row, _, _)) = self.heap.pop() else {
+            return Ok(ControlFlow::Break(None));
+        };
+        let node = self.register.node(row);
+        let cost = self.register.value(row).cost;
+        if graph.goal(&node) {
+            return Ok(ControlFlow::Break(Some((row, cost))));
         }
+        self.expand(graph, Taken { row, node, cost })?;
+        Ok(ControlFlow::Continue(()))
     }
 
     // Turns until the search ends.
@@ -60,16 +57,13 @@ impl<'a, N: NodeKind, C: CostKind> Frontier<'a, N, C> {
         &mut self,
         graph: &G,
     ) -> Result<Option<(u16, C)>, SeekRefusal>
-        requires { Good N.NodeKind.key N.NodeKind.marks C.CostKind.weight self.old }
-        ensures after { After N.NodeKind.key N.NodeKind.marks C.CostKind.weight self.old self.new }
-        ensures inside { ended_in result (size self.new) }
-        ensures answer { Ends (kind C.CostKind.fits C.CostKind.greatest) (meaning G.Graph.holds G.Graph.zones G.Graph.counts G.Graph.roads G.Graph.goals graph.now) (G.Graph.guesses graph.now) (capacity self.old) (state_of N.NodeKind.key C.CostKind.weight self.old) (end_of C.CostKind.weight result (state_of N.NodeKind.key C.CostKind.weight self.new)) }
+        ensures after { After self.old self.new }
+        ensures inside { ended_in result (length self.new.state.rows) }
+        ensures answer { Ends C.kind (G.means graph.now) (G.guesses graph.now) self.old.capacity self.old.state (end_of C.weight result self.new.state) }
     {
         loop {
-            match self.turn(graph)? {
-                Turned::More => {}
-                Turned::Found(row, cost) => return Ok(Some((row, cost))),
-                Turned::Empty => return Ok(None),
+            if let ControlFlow::Break(end) = self.turn(graph)? {
+                return Ok(end);
             }
         }
     }

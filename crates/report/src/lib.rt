@@ -6,4 +6,5 @@ pub mod memory;
 pub mod method;
 
 pub use lines::run;
+pub use memory::Memory;
 pub use method::Method;

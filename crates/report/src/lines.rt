@@ -1,55 +1,57 @@
 // The lines that a chart's searches come to.
-use crate::memory;
+use crate::memory::{Desk, Memory};
 use crate::method::Method;
 use chart::Chart;
 use kinds::{Station, Trims};
-use planner::Planner;
-use std::io;
+use std::{fmt, io};
 
-fn print_stations(rt: &impl Print, stations: &[Station]) -> io::Result<()> {
-    for station in stations {
-        let id = station.id;
-        print!(rt; " {id}")?;
-    }
-    println!(rt; "")
+// The nodes of a route.
+#[derive(Clone, Copy)]
+pub struct Route<'a, N> {
+    pub nodes: &'a [N],
 }
 
-// Prints the next route with the cost, and answers whether there was one.
-fn print_next(
-    rt: &impl Print,
-    name: &str,
-    cost: Trims,
-    planner: &mut Planner<Station, Trims>,
-    out: &mut [Station],
-) -> io::Result<bool> {
-    match planner.hand_out(out) {
-        Ok(None) => Ok(false),
-        Ok(Some(length)) => {
-            let trims = cost.trims;
-            let millis = cost.millis;
-            print!(rt; "{name} {trims} {millis}:")?;
-            print_stations(rt, &out[0..length])?;
-            Ok(true)
+// Each node after a blank.
+impl<'a, N: fmt::Display> fmt::Display for Route<'a, N> {
+    fn fmt<W: fmt::Write>(&self, f: &mut fmt::Formatter<W>) -> fmt::Result {
+        for node in self.nodes {
+            write!(f, " {node}")?;
         }
-        Err(refusal) => {
-            let number = refusal.number();
-            println!(rt; "{name} refused {number}")?;
-            Ok(false)
-        }
+        Ok(())
     }
+}
+
+// A search with the cost that it came to.
+#[derive(Clone, Copy)]
+struct Found {
+    method: Method,
+    cost: Trims,
+}
+
+impl fmt::Display for Found {
+    fn fmt<W: fmt::Write>(&self, f: &mut fmt::Formatter<W>) -> fmt::Result {
+        let Found { method, cost } = self;
+        write!(f, "{method} {cost}")
+    }
+}
+
+// Prints that something is refused, by the number of the refusal.
+fn print_refusal(rt: &impl Print, what: &str, number: u8) -> io::Result<()> {
+    println!(rt; "{what} refused {number}")
 }
 
 // Prints the routes that are there to be handed out, at most a hundred.
-fn print_routes(
-    rt: &impl Print,
-    name: &str,
-    cost: Trims,
-    planner: &mut Planner<Station, Trims>,
-    out: &mut [Station],
-) -> io::Result<()> {
+fn print_routes(rt: &impl Print, found: Found, desk: &mut Desk<Station, Trims>) -> io::Result<()> {
     for _ in 0..100 {
-        if !print_next(rt, name, cost, planner, out)? {
-            break;
+        match desk.planner.hand_out(desk.out) {
+            Ok(None) => break,
+            Ok(Some(length)) => {
+                let route = Route {
+                    nodes: &desk.out[0..length],
+                };
+                println!(rt; "{found}:{route}")?;
+            }
+            Err(refusal) => return print_refusal(rt, found.method.name(), u8::from(refusal)),
         }
     }
     Ok(())
@@ -59,34 +61,19 @@ fn print_routes(
 fn report(
     rt: &impl Print,
     method: Method,
-    planner: &mut Planner<Station, Trims>,
+    desk: &mut Desk<Station, Trims>,
     chart: &Chart,
-    out: &mut [Station],
 ) -> io::Result<()> {
-    let name = method.name();
-    match method.seek(planner, chart, Station { id: 0 }) {
-        Err(refusal) => {
-            let number = refusal.number();
-            println!(rt; "{name} refused {number}")
-        }
-        Ok(answer) => match answer {
-            None => println!(rt; "{name} none"),
-            Some(cost) => print_routes(rt, name, cost, planner, out),
-        },
+    match method.seek(&mut desk.planner, chart, Station { id: 0 }) {
+        Err(refusal) => print_refusal(rt, method.name(), u8::from(refusal)),
+        Ok(None) => println!(rt; "{method} none"),
+        Ok(Some(cost)) => print_routes(rt, Found { method, cost }, desk),
     }
 }
 
 // Whether a search is asked for: named, or none is named.
 fn wanted(names: &[String], method: Method) -> bool {
-    if names.is_empty() {
-        return true;
-    }
-    for name in names {
-        if name.as_str() == method.name() {
-            return true;
-        }
-    }
-    false
+    names.is_empty() || names.iter().any(|name| name.as_str() == method.name())
 }
 
 // Runs the searches that are named, or all, over a chart from station 0, with a planner of so many rows and links; and
@@ -99,28 +86,21 @@ pub fn run(
     links: usize,
 ) -> anyhow::Result<()> {
     if let Err(refusal) = chart::check(bytes) {
-        let number = refusal.number();
-        println!(rt; "chart refused {number}")?;
+        print_refusal(rt, "chart", u8::from(refusal))?;
         return Ok(());
     }
     let chart = Chart::make(bytes);
-    let mut slots = memory::slots(rt.alloc(), rows)?;
-    let mut nodes = memory::nodes(rt.alloc(), rows)?;
-    let mut rows = memory::rows(rt.alloc(), rows)?;
-    let mut links = memory::links(rt.alloc(), links)?;
-    if let Err(refusal) = planner::check(rows.len(), slots.len(), links.len()) {
-        let number = refusal.number();
-        println!(rt; "planner refused {number}")?;
-        return Ok(());
-    }
-    let mut planner = Planner::make(
-        rows.as_mut_slice(),
-        slots.as_mut_slice(),
-        links.as_mut_slice(),
-    );
+    let mut memory = Memory::new(rt.alloc(), Station { id: 0 }, rows, links)?;
+    let mut desk = match memory.desk() {
+        Ok(desk) => desk,
+        Err(refusal) => {
+            print_refusal(rt, "planner", u8::from(refusal))?;
+            return Ok(());
+        }
+    };
     for method in Method::ALL {
         if wanted(names, method) {
-            report(rt, method, &mut planner, &chart, nodes.as_mut_slice())?;
+            report(rt, method, &mut desk, &chart)?;
         }
     }
     Ok(())

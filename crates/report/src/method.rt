@@ -1,17 +1,19 @@
 // The searches that the program can run, by name.
-ghost use Rattle.std.specs.Prelude.{◌≡◌};
-ghost use Rattle.kinds.specs.Kind.{kind};
-ghost use Rattle.graph.specs.Meaning.{meaning};
+ghost use Rattle.std.specs.Prelude.{◌≡◌, ◌≢◌, Some, MatchResult, codes};
+ghost use Rattle.std.specs.Fmt.{padded};
 ghost use Rattle.search.specs.Calls.{Call, sought};
-ghost use Rattle.planner.specs.Pending.{held_of, answer_of};
+ghost use Rattle.planner.specs.Pending.{answer_of};
 ghost use Rattle.report.specs.Names.{name_of, method_of};
 
 use graph::Graph;
 use kinds::{CostKind, NodeKind};
 use planner::Planner;
 use search::SeekRefusal;
+use std::error::Error;
+use std::fmt;
+use std::str::FromStr;
 
-#[derive(Clone, Copy, Debug)]
+#[derive(Clone, Copy, Debug, PartialEq, Eq)]
 pub enum Method {
     Dijkstra,
     Astar,
@@ -31,14 +33,14 @@ impl Method {
         }
     }
 
-    // Seeks by it.
+    // Seeks by it. A match, since the searches are a closed choice that users make by name.
     pub fn seek<N: NodeKind, C: CostKind, G: Graph<Node = N, Cost = C>>(
         self,
         planner: &mut Planner<N, C>,
         graph: &G,
         start: N,
     ) -> Result<Option<C>, SeekRefusal>
-        ensures { Call (kind C.CostKind.fits C.CostKind.greatest) (held_of N.NodeKind.key C.CostKind.weight planner.old) (sought (method_of self) (meaning G.Graph.holds G.Graph.zones G.Graph.counts G.Graph.roads G.Graph.goals graph.now) (G.Graph.guesses graph.now) (N.NodeKind.key start) (answer_of C.CostKind.weight result)) (held_of N.NodeKind.key C.CostKind.weight planner.new) }
+        ensures { Call C.kind planner.old (sought (method_of self) (G.means graph.now) (G.guesses graph.now) (N.key start) (answer_of C.weight result)) planner.new }
     {
         match self {
             Method::Dijkstra => planner.dijkstra(graph, start),
@@ -46,3 +48,45 @@ impl Method {
         }
     }
 }
+
+// By its name.
+impl fmt::Display for Method {
+    ghost output = { λ m. Some (name_of m) };
+
+    ghost styled_output = { λ m spec. Some (padded spec (name_of m)) };
+
+    fn fmt<W: fmt::Write>(&self, f: &mut fmt::Formatter<W>) -> fmt::Result {
+        f.pad(self.name())
+    }
+}
+
+// The search that has the name.
+impl FromStr for Method {
+    ghost use Rattle.report.specs.declared.method.Method.{Method};
+
+    type Err = UnknownName;
+
+    ghost from_str_gives = { λ text r. MatchResult r (λ m. name_of m ≡ text)
+        (λ _. (m : Method) → name_of m ≢ text) };
+
+    fn from_str(text: &str) -> Result<Method, UnknownName> {
+        Method::ALL
+            .into_iter()
+            .find(|method| method.name() == text)
+            .ok_or(UnknownName)
+    }
+}
+
+// That no search has the name.
+#[derive(Clone, Copy, Debug, PartialEq, Eq)]
+pub struct UnknownName;
+
+impl fmt::Display for UnknownName {
+    ghost output = { λ _. Some (codes "no search has this name") };
+
+    fn fmt<W: fmt::Write>(&self, f: &mut fmt::Formatter<W>) -> fmt::Result {
+        f.write_str("no search has this name")
+    }
+}
+
+impl Error for UnknownName {}

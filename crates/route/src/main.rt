@@ -3,7 +3,7 @@
 // Arguments name the searches to run; with none, all are run.
 #![tactic(auto)]
 
-use anyhow::anyhow;
+use anyhow::bail;
 use report::Method;
 use std::env;
 use std::io::Read;
@@ -12,22 +12,13 @@ const ROWS: usize = 512;
 
 const LINKS: usize = 2000;
 
-// Whether a search has the name.
-fn known(name: &str) -> bool {
-    for method in Method::ALL {
-        if name == method.name() {
-            return true;
-        }
-    }
-    false
-}
-
 fn start(rt: &HostRuntime) -> anyhow::Result<()> {
     let mut names = Vec::new(rt.alloc());
     for name in env::args(rt)?.skip(1) {
-        if !known(name.as_str()) {
-            eprintln!(rt; "route: no search is called {name}: there are dijkstra and astar")?;
-            return Err(anyhow!("an argument names no search"));
+        if name.as_str().parse::<Method>().is_err() {
+            let [first, last] = Method::ALL;
+            eprintln!(rt; "route: no search is called {name}: there are {first} and {last}")?;
+            bail!("an argument names no search");
         }
         names.push(name)?;
     }

@@ -1,32 +1,23 @@
 -- The search ends: each turn uses up a potential.
 use Rattle.std.proofs.Common.{◌≡◌, ℕ, zero, suc, ◌+◌, ◌-◌, ◌*◌, ◌<◌, ◌≤◌, Bool, true, false, cond, eqb, ltb, List, [], ◌∷◌, ◌++◌, length, get_or, set, Some, None, Option, sym, refl, ap, ◌∙◌, subst, suc-mul, arith, length-append, length-set}
+use Rattle.std.specs.List.{sum_by}
 use Rattle.std.proofs.lemmas.Bool.{ltb-true, eqb-false}
+use Rattle.std.proofs.lemmas.List.Sums.{sum_by_push, sum_by-set}
 use Rattle.kinds.specs.Kind.{Kind}
 use Rattle.graph.specs.Meaning.{Meaning, Road, opened, closed, faulty}
 use Rattle.search.specs.Rows.{Row, no_row, find}
 use Rattle.search.specs.Queue.{Entry, overtakes, sooner, first_out, without}
 use Rattle.search.specs.Machine.{State, Result, fine, refused, Turned, more, done, pushed, fresh, known, arrive, summed, relax, onward, along, turned, taken, turn}
 use Rattle.search.proofs.Never.{never}
-use Rattle.search.proofs.Places.{at_below}
+use Rattle.std.proofs.lemmas.Option.{slice_get_within}
 use Rattle.search.proofs.Queues.{find_some}
 
-pub total : List Row → ℕ
-total [] = 0
-total (r ∷ rs) = r.cost + total rs
-
-total_push : (rows : List Row) (r : Row) → total (rows ++ r ∷ []) ≡ total rows + r.cost
-unfolding total
-total_push [] r = omega arith
-total_push (x ∷ xs) r = omega (arith, total_push xs r)
-
-total_set : (rows : List Row) (j : ℕ) (r : Row) → j < length rows → total (set rows j r) + (get_or rows j no_row).cost ≡ total rows + r.cost
-unfolding total
-total_set [] j r a = absurd (omega arith)
-total_set (x ∷ xs) zero r a = omega arith
-total_set (x ∷ xs) (suc j) r a = omega (arith, total_set xs j r (omega arith))
+-- what the rows cost together
+abbrev total : List Row → ℕ
+total rows = sum_by (λ r. r.cost) rows
 
 find_in : (k : ℕ) (rows : List Row) (j : ℕ) → find k rows ≡ Some j → j < length rows
-find_in k rows j e = at_below rows j (get_or rows j no_row) (find_some k rows j e).0
+find_in k rows j e = slice_get_within rows j (get_or rows j no_row) (find_some k rows j e).0
 
 length_without : (j : ℕ) (es : List Entry) → length (without j es) ≤ length es
 length_without j [] = omega arith
@@ -85,7 +76,7 @@ module _ (K : Kind) (M : Meaning) (guess : ℕ → ℕ) (cap : ℕ) (bound : (a 
           let lr : length (s.rows ++ r ∷ []) ≡ suc (length s.rows) = length-append s.rows (r ∷ []) ∙ omega arith in
           let lh = length-append (without (length s.rows) s.heap) (e ∷ []) in
           let lw = length_without (length s.rows) s.heap in
-          let tp = total_push s.rows r in
+          let tp = sum_by_push (λ (x : Row). x.cost) s.rows r in
           let rm = room K cap (length s.rows) (ltb-true (length s.rows) cap t) in
           rw lr (omega arith)
       go false = tt
@@ -101,7 +92,7 @@ module _ (K : Kind) (M : Meaning) (guess : ℕ → ℕ) (cap : ℕ) (bound : (a 
           let e : Entry = record { row = j; estimate = sum + guess k; cost = sum } in
           let lh = length-append (without j s.heap) (e ∷ []) in
           let lw = length_without j s.heap in
-          let tp = total_set s.rows j r a in
+          let tp = sum_by-set (λ (x : Row). x.cost) s.rows j r no_row a in
           let c : sum < (get_or s.rows j no_row).cost = ltb-true sum (get_or s.rows j no_row).cost t in
           rw (length-set s.rows j r) (omega arith)
       go false = tt

@@ -1,7 +1,8 @@
 -- What holds of the rows at every moment of a search, whatever it is that waits.
-use Rattle.std.proofs.Common.{◌≡◌, ℕ, zero, suc, ◌+◌, ◌<◌, ◌≤◌, true, ◌⊎◌, List, [], ◌∷◌, refl, subst, inl}
+use Rattle.std.proofs.Common.{◌≡◌, ℕ, zero, suc, ◌+◌, ◌<◌, ◌≤◌, true, ◌⊎◌, List, [], ◌∷◌, refl, inl}
 use Rattle.graph.specs.Meaning.{Meaning, opened}
 use Rattle.search.specs.Rows.{Row}
+use Rattle.search.proofs.Never.{never}
 use Rattle.search.proofs.Places.{At}
 
 abbrev pub row_of : (key cost parent : ℕ) → Row
@@ -56,19 +57,19 @@ NoGoal j = ⊥
 
 -- at first there is the start, which waits
 pub begins : (M : Meaning) (start : ℕ) (Waits Taken : ℕ → Type 0) → M.held start ≡ true → Waits 0 → Inv M start AllDue Waits Taken (row_of start 0 0 ∷ [])
-begins M start Waits Taken h w = record { root = refl; held = hd; parents = λ i r a. absurd a; chained = ch; settled = st }
+begins M start Waits Taken h w = record { root = refl; held = hd; parents = λ i r a. never _ (cc); chained = ch; settled = st }
   where
     hd : (i : ℕ) (r : Row) → At (row_of start 0 0 ∷ []) i r → M.held r.key ≡ true
-    hd zero r a = subst (λ (x : Row). M.held x.key ≡ true) a h
-    hd (suc i) r a = absurd a
+    hd zero r a = cc
+    hd (suc i) r a = never _ (cc)
 
     ch : (i : ℕ) (r : Row) → At (row_of start 0 0 ∷ []) i r → Chain (row_of start 0 0 ∷ []) i
     ch zero r a = root
-    ch (suc i) r a = absurd a
+    ch (suc i) r a = never _ (cc)
 
     st : (j : ℕ) (r : Row) → At (row_of start 0 0 ∷ []) j r → Waits j ⊎ Settled M (AllDue j) (Taken j) (row_of start 0 0 ∷ []) r
     st zero r a = inl w
-    st (suc j) r a = absurd a
+    st (suc j) r a = never _ (cc)
 
 -- what waits, what is due or what was taken has changed, and the rows have not
 pub resettled : {M : Meaning} {start : ℕ} {D D' : ℕ → ℕ → Type 0} {W W' T T' : ℕ → Type 0} {rows : List Row} → Inv M start D W T rows → ((j : ℕ) (r : Row) → At rows j r → W j ⊎ Settled M (D j) (T j) rows r → W' j ⊎ Settled M (D' j) (T' j) rows r) → Inv M start D' W' T' rows

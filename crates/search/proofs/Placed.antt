@@ -3,7 +3,8 @@ use Rattle.std.proofs.Common.{◌≡◌, ℕ, zero, suc, ◌+◌, ◌<◌, ◌�
 use Rattle.std.proofs.lemmas.Bool.{cases_eq}
 use Rattle.graph.specs.Meaning.{Meaning, Lawful, opened}
 use Rattle.search.specs.Rows.{Row}
-use Rattle.search.proofs.Places.{At, at_same, at_below, at_left, at_last, at_back, at_set, at_set_to, at_set_from}
+use Rattle.search.proofs.Places.{At, at_same, at_left, at_last, at_back, at_set, at_set_to, at_set_from}
+use Rattle.std.proofs.lemmas.Option.{slice_get_within}
 use Rattle.search.proofs.Invariant.{Inv, Reached, Parent, Chain, root, up, Settled, row_of}
 use Rattle.search.proofs.Followed.{Followed, followed_open}
 
@@ -25,11 +26,11 @@ placed_new rows new = record {
 }
   where
     past : (r : Row) → At rows (length rows) r → ⊥
-    past r a = let b = at_below rows (length rows) r a in omega arith
+    past r a = let b = slice_get_within rows (length rows) r a in omega arith
 
 pub placed_cheaper : (rows : List Row) (j : ℕ) (old new : Row) → At rows j old → old.key ≡ new.key → new.cost < old.cost → Placed rows (set rows j new) j new
 placed_cheaper rows j old new a k l = record {
-  here = at_set rows j new (at_below rows j old a);
+  here = at_set rows j new (slice_get_within rows j old a);
   to = λ i r n b. at_set_to rows j i new r n b;
   from = λ i r n b. at_set_from rows j i new r n b;
   was = λ r b. subst (λ (x : Row). (x.key ≡ new.key) × (new.cost < x.cost)) (at_same rows j old r a b) (k, l);

@@ -1,6 +1,7 @@
 -- The look-up of a key among the rows, and the queue: the first out, and what stays.
-use Rattle.std.proofs.Common.{◌≡◌, ℕ, suc, ◌+◌, ◌≤◌, Bool, true, false, cond, eqb, ltb, ◌⊎◌, List, [], ◌∷◌, ◌++◌, get_or, Some, None, Option, sym, refl, ap, ◌∙◌, subst, inl, inr, le_refl, arith}
-use Rattle.std.proofs.lemmas.Bool.{ltb-true, ltb-false, eqb-true, eqb-false}
+use Rattle.std.proofs.Common.{◌≡◌, ℕ, suc, ◌+◌, ◌≤◌, Bool, true, false, cond, eqb, ◌⊎◌, List, [], ◌∷◌, ◌++◌, get_or, Some, None, Option, sym, refl, ap, ◌∙◌, subst, inl, inr, le_refl, arith}
+use Rattle.std.proofs.lemmas.Bool.{eqb-true, eqb-false}
+use Rattle.std.proofs.lemmas.Grind.{common_steps}
 use Rattle.search.specs.Rows.{Row, no_row, find, later}
 use Rattle.search.specs.Queue.{Entry, overtakes, sooner, first_out, without}
 use Rattle.search.proofs.Never.{never}
@@ -31,19 +32,10 @@ first_none (y ∷ es) e x h = go (first_out es) e
     go (Some z) q = never _ (cc)
 
 overtakes_true : (y x : Entry) → overtakes y x ≡ true → y.estimate ≤ x.estimate
-overtakes_true y x t = go (ltb y.estimate x.estimate) refl (eqb y.estimate x.estimate) refl t
-  where
-    go : (a : Bool) → ltb y.estimate x.estimate ≡ a → (b : Bool) → eqb y.estimate x.estimate ≡ b → cond a true (cond b (ltb x.cost y.cost) false) ≡ true → y.estimate ≤ x.estimate
-    go true l b e t = omega (arith, ltb-true y.estimate x.estimate l)
-    go false l true e t = omega (arith, eqb-true y.estimate x.estimate e)
-    go false l false e t = never _ (cc)
+overtakes_true y x t = grind (arith, common_steps)
 
 overtakes_false : (y x : Entry) → overtakes y x ≡ false → x.estimate ≤ y.estimate
-overtakes_false y x t = go (ltb y.estimate x.estimate) refl t
-  where
-    go : (a : Bool) → ltb y.estimate x.estimate ≡ a → cond a true (cond (eqb y.estimate x.estimate) (ltb x.cost y.cost) false) ≡ false → x.estimate ≤ y.estimate
-    go true l t = never _ (cc)
-    go false l t = ltb-false y.estimate x.estimate l
+overtakes_false y x t = grind (arith, common_steps)
 
 -- the first out is there, and no estimate is less than its own
 pub record First (es : List Entry) (e : Entry) : Type 0 where

@@ -9,7 +9,8 @@ use Rattle.search.specs.Queue.{Entry, first_out, without}
 use Rattle.search.specs.Machine.{State, Result, fine, refused, Turned, more, done, begin, onward, turned, pushed, fresh, known, arrive, summed, relax, along, taken, turn, Ends, from, Search}
 use Rattle.search.proofs.Never.{never}
 use Rattle.search.proofs.Once.{through}
-use Rattle.search.proofs.Places.{At, In, at_same, at_get_d}
+use Rattle.search.proofs.Places.{At, In, at_same}
+use Rattle.std.proofs.lemmas.Option.{get_or_from_slice_get}
 use Rattle.search.proofs.Queues.{Hit, find_some, First, first_out_lem, first_none, Waits, waits_without, waits_new, waits_still, pushed_from, without_from}
 use Rattle.search.proofs.Invariant.{Inv, AllDue, Below, NoGoal, row_of, begins}
 use Rattle.search.proofs.Followed.{Followed, followed_open, followed_closed, take_out, one_more, all_followed}
@@ -156,7 +157,7 @@ module _ (K : Kind) (M : Meaning) (guess : ℕ → ℕ) (cap : ℕ) (law : Lawfu
   turn_keeps s g (Some e) q =
       let f : First s.heap e = first_out_lem s.heap e q in
       let h : Fair guess s.rows e = g.fair e f.there in
-      let z : h.row ≡ get_or s.rows e.row no_row = sym (at_get_d s.rows e.row h.row no_row h.there) in
+      let z : h.row ≡ get_or s.rows e.row no_row = sym (get_or_from_slice_get s.rows e.row h.row no_row h.there) in
       taken_keeps s g e f (get_or s.rows e.row no_row) (subst (λ (x : Row). At s.rows e.row x) z h.there) _ refl
 
   begin_good : M.held start ≡ true → Good M guess start AllDue (begin start)

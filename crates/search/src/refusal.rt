@@ -5,7 +5,7 @@ ghost use Rattle.search.specs.Numbers.{seek_number, hand_out_number};
 use graph::Fault;
 
 // Why a search was refused, and where: the row whose roads were followed, and the rank of the road.
-#[derive(Clone, Copy, Debug)]
+#[derive(Clone, Copy, PartialEq, Eq, Debug)]
 pub enum SeekRefusal {
     // The start is not held.
     NotHeld,
@@ -17,34 +17,34 @@ pub enum SeekRefusal {
     NoRow { row: u16, rank: u16 },
 }
 
-impl SeekRefusal {
-    // The number by which users know it.
-    pub fn number(&self) -> u8
-        ensures { result ≡ seek_number self.now }
-    {
-        match self {
+// The number by which users know it.
+impl From<SeekRefusal> for u8 {
+    ghost from_gives = { λ refusal n. n ≡ seek_number refusal };
+
+    fn from(refusal: SeekRefusal) -> u8 {
+        match refusal {
             SeekRefusal::NotHeld => 7,
-            SeekRefusal::FaultyRoad { row: _, fault: _ } => 8,
-            SeekRefusal::NoSum { row: _, rank: _ } => 10,
-            SeekRefusal::NoRow { row: _, rank: _ } => 11,
+            SeekRefusal::FaultyRoad { .. } => 8,
+            SeekRefusal::NoSum { .. } => 10,
+            SeekRefusal::NoRow { .. } => 11,
         }
     }
 }
 
 // Why a hand-out was refused.
-#[derive(Clone, Copy, Debug)]
+#[derive(Clone, Copy, PartialEq, Eq, Debug)]
 pub enum HandOutRefusal {
     // The output is shorter than the route, which needs so many entries.
     Short { needed: usize },
 }
 
-impl HandOutRefusal {
-    // The number by which users know it.
-    pub fn number(&self) -> u8
-        ensures { result ≡ hand_out_number self.now }
-    {
-        match self {
-            HandOutRefusal::Short { needed: _ } => 13,
+// The number by which users know it.
+impl From<HandOutRefusal> for u8 {
+    ghost from_gives = { λ refusal n. n ≡ hand_out_number refusal };
+
+    fn from(refusal: HandOutRefusal) -> u8 {
+        match refusal {
+            HandOutRefusal::Short { .. } => 13,
         }
     }
 }

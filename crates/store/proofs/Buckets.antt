@@ -1,10 +1,21 @@
 -- The hash chains of a register: a look-up meets every row of its bucket, and a new row or value keeps them.
 use Rattle.std.proofs.Common.{◌≡◌, ℕ, zero, suc, ◌+◌, ◌%◌, ◌<◌, ◌≤◌, false, eqb, List, [], ◌∷◌, ◌++◌, map, length, get_or, take, set, Some, None, sym, refl, ap, ◌∙◌, subst, ⊎_elim, add-one, arith}
-use Rattle.std.proofs.lemmas.List.{get_or-set_same, get_or-set_other, get_or_default, length-set, take_more, map-append, length-map, length-take-le, get_or-map, get_or-take}
+use Rattle.std.proofs.lemmas.List.{get_or-set_same, get_or-set_other, get_or_default, length-set, take_more, map-append, length-map, length-take-le, get_or-map, get_or-take, map-set, same_lists}
+use Rattle.std.proofs.Math.Seq.{take-set-lt}
 use Rattle.std.proofs.lemmas.Bool.{cases_eq, cond-true, cond-false, eq-eqb, ne_eqb, eqb-false}
 use Rattle.store.specs.declared.rows.Row.{Row}
 use Rattle.store.specs.Rows.{bucket, Linked, Single, known, found, later, number_of}
 use Rattle.store.proofs.Seats.{same_field}
+
+pub length_found : {N V : Type 0} (xs : List (Row N V)) (n : ℕ) → n ≤ length xs → length (found xs n) ≡ n
+unfolding found
+length_found xs n ln = length-map (take n xs) known ∙ length-take-le n xs ln
+
+pub found_at : {N V : Type 0} (xs : List (Row N V)) (n k : ℕ) (d : Row N V) (e : N × V) → n ≤ length xs → k < n → get_or (found xs n) k e ≡ known (get_or xs k d)
+unfolding found
+found_at xs n k d e ln lk =
+    let l : k < length (take n xs) = omega (arith, length-take-le n xs ln) in
+    get_or-map known (take n xs) k d e l ∙ ap known (get_or-take n xs k d lk)
 
 -- what the writes of a new row leave
 pub record Grown {N V : Type 0} (xs zs : List (Row N V)) (n b : ℕ) (node : N) (value : V) (next : ℕ) : Type 0 where
@@ -97,7 +108,7 @@ module _ {N V : Type 0} (m : N → ℕ) (xs zs : List (Row N V)) (n b : ℕ) (no
   unfolding found
   found_grown d ln =
       ap (map known) (take_more zs n d (omega (arith, g.long))) ∙ map-append known (take n zs) (get_or zs n d ∷ [])
-      ∙ ap (λ l. l ++ known (get_or zs n d) ∷ []) (fronts zs xs n (omega (arith, g.long)) (omega arith) (λ k e lk. known_at k e (λ q. omega arith)))
+      ∙ ap (λ l. l ++ known (get_or zs n d) ∷ []) front
       ∙ ap (λ v. map known (take n xs) ++ v ∷ []) (known_here d)
     where
       known_here : (d : Row N V) → known (get_or zs n d) ≡ (node, value)
@@ -106,30 +117,38 @@ module _ {N V : Type 0} (m : N → ℕ) (xs zs : List (Row N V)) (n b : ℕ) (no
       known_at : (k : ℕ) (d : Row N V) → (k ≡ n → ⊥) → known (get_or zs k d) ≡ known (get_or xs k d)
       known_at k d ne = ap (λ v. (v, (get_or zs k d).value)) (g.nodes k d ne) ∙ ap (λ v. ((get_or xs k d).node, v)) (g.values k d ne)
 
-      fronts : (ss bs : List (Row N V)) (i : ℕ) → i ≤ length ss → i ≤ length bs → ((k : ℕ) (d : Row N V) → k < i → known (get_or ss k d) ≡ known (get_or bs k d)) → map known (take i ss) ≡ map known (take i bs)
-      fronts ss bs zero la lb h = refl
-      fronts [] bs (suc i) la lb h = absurd (omega arith)
-      fronts (a ∷ ss) [] (suc i) la lb h = absurd (omega arith)
-      fronts (a ∷ ss) (c ∷ bs) (suc i) la lb h =
-          ap (λ v. v ∷ map known (take i ss)) (h 0 a (omega arith)) ∙ ap (λ l. known c ∷ l) (fronts ss bs i (omega arith) (omega arith) (λ k d lk. h (suc k) d (omega arith)))
+      long : length (found zs n) ≡ length (found xs n)
+      long = length_found zs n (omega (arith, g.long)) ∙ sym (length_found xs n (omega arith))
 
-module _ {N V : Type 0} (m : N → ℕ) (xs : List (Row N V)) (n : ℕ) (l : Linked m xs n) where
-  -- the head of a bucket that has a row
-  pub head_of : (b h : ℕ) → ((d : Row N V) → h ≡ (get_or xs b d).head) → (k : ℕ) (d : Row N V) → k < n → bucket m xs d k ≡ b → (h < n) × (bucket m xs d h ≡ b) × (k ≤ h)
-  head_of b h eh k d lk e =
+      front : found zs n ≡ found xs n
+      front =
+          same_lists (found zs n) (found xs n) long
+          (λ k e lk.
+          let r : Row N V = record { node = e.0; value = e.1; next = 0; head = 0 } in
+          let l : k < n = omega (arith, lk, length_found zs n (omega (arith, g.long))) in
+          found_at zs n k r e (omega (arith, g.long)) l ∙ known_at k r (λ q. omega arith) ∙ sym (found_at xs n k r e (omega arith) l))
+
+-- a search of a bucket for the rows of a key, of which no two have one key
+module _ {N V : Type 0} (key m : N → ℕ) (alike : (x y : N) → key x ≡ key y → m x ≡ m y) (xs : List (Row N V)) (n : ℕ) (l : Linked m xs n) (node : N) (mark : ℕ) (is : mark ≡ m node) where
+  -- a row of the key is of the bucket
+  of_bucket : (k : ℕ) (d : Row N V) → key (get_or xs k d).node ≡ key node → bucket m xs d k ≡ mark % length xs
+  of_bucket k d e = ap (λ v. v % length xs) (alike (get_or xs k d).node node e ∙ sym is)
+
+  -- and lies no later than the head of the bucket
+  pub from_head : (d₁ : Row N V) → mark % length xs < length xs → (k : ℕ) (d : Row N V) → k < n → key (get_or xs k d).node ≡ key node → ((get_or xs (mark % length xs) d₁).head < n) × (bucket m xs d (get_or xs (mark % length xs) d₁).head ≡ mark % length xs) × (k ≤ (get_or xs (mark % length xs) d₁).head)
+  from_head d₁ lb k d lk e =
+      let kb = of_bucket k d e in
       let o = l.heads k d lk in
-      let q : (get_or xs (bucket m xs d k) d).head ≡ h = ap (λ i. (get_or xs i d).head) e ∙ sym (eh d) in
-      subst (λ v. (v < n) × (bucket m xs d v ≡ b) × (k ≤ v)) q (o.0, o.1 ∙ e, o.2)
+      let q : (get_or xs (bucket m xs d k) d).head ≡ (get_or xs (mark % length xs) d₁).head = ap (λ i. (get_or xs i d).head) kb ∙ ap (λ (r : Row N V). r.head) (get_or_default xs (mark % length xs) d d₁ lb) in
+      subst (λ v. (v < n) × (bucket m xs d v ≡ mark % length xs) × (k ≤ v)) q (o.0, o.1 ∙ kb, o.2)
 
-  pub next_of : (r p b : ℕ) → ((d : Row N V) → p ≡ (get_or xs r d).next) → r < n → ((d : Row N V) → bucket m xs d r ≡ b) → (k : ℕ) (d : Row N V) → k < r → bucket m xs d k ≡ b → (p < r) × (bucket m xs d p ≡ b) × (k ≤ p)
-  next_of r p b ep lr er k d lk e =
-      let o = l.nexts r k d lr lk (e ∙ sym (er d)) in
-      subst (λ v. (v < r) × (bucket m xs d v ≡ b) × (k ≤ v)) (sym (ep d)) (o.0, o.1 ∙ er d, o.2)
-
--- a row with the key lies before one without it
-pub before_it : {N V : Type 0} (key : N → ℕ) (xs : List (Row N V)) (q r k : ℕ) (d : Row N V) → eqb (key (get_or xs r d).node) q ≡ false → key (get_or xs k d).node ≡ q → k ≤ r → k < r
-before_it key xs q r k d t e le =
-    ⊎_elim (λ (s : k ≡ r). absurd (eqb-false (key (get_or xs r d).node) q t (ap (λ i. key (get_or xs i d).node) (sym s) ∙ e))) (λ ns. omega arith) (cases_eq k r)
+  -- nor, where row r has another key, than the next of r
+  pub from_next : (r : ℕ) (d₁ d₂ : Row N V) → r < n → n ≤ length xs → eqb (key (get_or xs r d₂).node) (key node) ≡ false → (k : ℕ) (d : Row N V) → k < n → key (get_or xs k d).node ≡ key node → bucket m xs d r ≡ mark % length xs → k ≤ r → ((get_or xs r d₁).next < r) × (bucket m xs d (get_or xs r d₁).next ≡ mark % length xs) × (k ≤ (get_or xs r d₁).next)
+  from_next r d₁ d₂ lr ln t k d lk e er le =
+      let dd : get_or xs r d ≡ get_or xs r d₁ = get_or_default xs r d d₁ (omega arith) in
+      let ne : k ≡ r → ⊥ = λ s. eqb-false (key (get_or xs r d₂).node) (key node) t (ap (λ (x : Row N V). key x.node) (get_or_default xs r d₂ d (omega arith)) ∙ ap (λ i. key (get_or xs i d).node) (sym s) ∙ e) in
+      let o = l.nexts r k d lr (omega arith) (of_bucket k d e ∙ sym er) in
+      subst (λ v. (v < r) × (bucket m xs d v ≡ mark % length xs) × (k ≤ v)) (ap (λ (x : Row N V). x.next) dd) (o.0, o.1 ∙ er, o.2)
 
 pub number_none : {N V : Type 0} (key : N → ℕ) (xs : List (Row N V)) (n q : ℕ) → n ≤ length xs → ((k : ℕ) (d : Row N V) → k < n → key (get_or xs k d).node ≡ q → ⊥) → number_of key q (found xs n) ≡ None
 unfolding found
@@ -150,16 +169,6 @@ number_some key (x ∷ xs) (suc n) q (suc p) ln s lp e =
     ∙ ap later (number_some key xs n q p (omega arith) (λ j k d lj lk r. let z : suc j ≡ suc k = s (suc j) (suc k) d (omega arith) (omega arith) r in omega arith) (omega arith) e)
     ∙ ap Some (add-one p)
 
-pub length_found : {N V : Type 0} (xs : List (Row N V)) (n : ℕ) → n ≤ length xs → length (found xs n) ≡ n
-unfolding found
-length_found xs n ln = length-map (take n xs) known ∙ length-take-le n xs ln
-
-pub found_at : {N V : Type 0} (xs : List (Row N V)) (n k : ℕ) (d : Row N V) (e : N × V) → n ≤ length xs → k < n → get_or (found xs n) k e ≡ known (get_or xs k d)
-unfolding found
-found_at xs n k d e ln lk =
-    let l : k < length (take n xs) = omega (arith, length-take-le n xs ln) in
-    get_or-map known (take n xs) k d e l ∙ ap known (get_or-take n xs k d lk)
-
 pub fresh_from : {N V : Type 0} (key : N → ℕ) (xs : List (Row N V)) (n q : ℕ) → n ≤ length xs → Single key xs n → number_of key q (found xs n) ≡ None → (k : ℕ) (d : Row N V) → k < n → key (get_or xs k d).node ≡ q → ⊥
 fresh_from {N} {V} key xs n q ln s none k d lk e =
     let some : number_of key q (found xs n) ≡ Some k = number_some key xs n q k ln s lk (λ d'. ap (λ (r : Row N V). key r.node) (get_or_default xs k d' d (omega arith)) ∙ e) in
@@ -169,9 +178,6 @@ fresh_from {N} {V} key xs n q ln s none k d lk e =
 pub found_none : {N V : Type 0} (xs : List (Row N V)) → found xs 0 ≡ []
 unfolding found
 found_none xs = refl
-
-pub linked_none : {N V : Type 0} (m : N → ℕ) (xs : List (Row N V)) → Linked m xs 0
-linked_none m xs = record { heads = λ r d l. absurd (omega arith); nexts = λ r j d l. absurd (omega arith) }
 
 -- a write of one value keeps all else
 module _ {N V : Type 0} (xs : List (Row N V)) (i : ℕ) (v : V) (s d₁ : Row N V) (li : i < length xs) (en : s.node ≡ (get_or xs i d₁).node) (ev : s.value ≡ v) (ex : s.next ≡ (get_or xs i d₁).next) (eh : s.head ≡ (get_or xs i d₁).head) where
@@ -205,18 +211,6 @@ module _ {N V : Type 0} (xs : List (Row N V)) (i : ℕ) (v : V) (s d₁ : Row N 
   pub found_valued : (n : ℕ) → i < n → n ≤ length xs → (d : N × V) → found (set xs i s) n ≡ set (found xs n) i ((get_or (found xs n) i d).0, v)
   unfolding found
   found_valued n l ln d =
-      ap (map known) (take_set_lt n i s xs l) ∙ map_set' known (take n xs) i s
+      ap (map known) (take-set-lt n xs i s l) ∙ map-set known (take n xs) i s
       ∙ ap (λ w. set (map known (take n xs)) i (w, s.value)) (en ∙ ap (λ (w : N × V). w.0) (sym (found_at xs n i d₁ d ln l)))
       ∙ ap (λ w. set (map known (take n xs)) i ((get_or (map known (take n xs)) i d).0, w)) ev
-    where
-      map_set' : {X Y : Type 0} (f : X → Y) (l : List X) (i : ℕ) (a : X) → map f (set l i a) ≡ set (map f l) i (f a)
-      map_set' f [] i a = refl
-      map_set' f (x ∷ l) zero a = refl
-      map_set' f (x ∷ l) (suc i) a = ap (λ t. f x ∷ t) (map_set' f l i a)
-
-      take_set_lt : {X : Type 0} (n i : ℕ) (a : X) (l : List X) → i < n → take n (set l i a) ≡ set (take n l) i a
-      take_set_lt zero i a l h = absurd (omega arith)
-      take_set_lt (suc n) zero a [] h = refl
-      take_set_lt (suc n) (suc i) a [] h = refl
-      take_set_lt (suc n) zero a (x ∷ l) h = refl
-      take_set_lt (suc n) (suc i) a (x ∷ l) h = ap (λ t. x ∷ t) (take_set_lt n i a l (omega arith))

@@ -1,135 +1,119 @@
 -- What the passes of a deal do, and what the whole keeps.
-use Rattle.std.proofs.Common.{◌≡◌, ℕ, zero, suc, ◌+◌, ◌<◌, ◌≤◌, cond, ltb, List, [], ◌∷◌, map, length, get_or, set, sym, refl, ap, ◌∙◌, subst, ⊎_elim, arith}
-use Rattle.std.proofs.lemmas.List.{get_or-set_same, get_or-set_other, get_or_default, length-set}
-use Rattle.std.proofs.lemmas.Bool.{cases_eq, cases_lt}
+use Rattle.std.proofs.Common.{◌≡◌, ℕ, ◌+◌, ◌-◌, ◌<◌, ◌≤◌, ltb, eqb, List, [], ◌∷◌, ◌++◌, map, length, get_or, take, drop, length-append, append-nil, length-drop, sym, refl, ap, ◌∙◌, subst, ⊎_elim, arith}
+use Rattle.std.proofs.lemmas.List.{get_or-take, get_or_append_left, get_or-append_right, get_or-drop, get_or-map, length-map, length-take-le, map-append, take-append-drop, take-append-le, take_all, drop_all}
+use Rattle.std.proofs.lemmas.Map.Keys.{IsDistinct-from_apart, apart_from_distinct}
+use Rattle.std.proofs.lemmas.Bool.{cases_lt, cases_Bool, cond-true, cond-false, eqb-false, ne_eqb}
+use Rattle.std.specs.List.{filter}
 use Rattle.store.specs.declared.slots.Entry.{Entry}
 use Rattle.store.specs.declared.slots.Slot.{Slot}
-use Rattle.store.specs.Slots.{at, Ahead, Placed, Apart, Counted, Heaped}
-use Rattle.store.specs.Queue.{waiting, by_push, entries, queue}
-use Rattle.store.specs.Deal.{dealt, below, labelled, Numbered, Relabelled}
-use Rattle.store.proofs.Seats.{same_field}
-use Rattle.store.proofs.Queues.{mem_at}
+use Rattle.store.specs.Slots.{at, entry_of, entries, Ahead, Placed, Apart, Counted, Heaped}
+use Rattle.store.specs.Queue.{waiting, by_push, queue}
+use Rattle.store.specs.Deal.{dealt, below, numbered, relabelled}
+use Rattle.store.proofs.Queues.{mem_get}
 use Rattle.store.proofs.Deals.{below_le, below_lt, below_fits, keeps_below, by_push_dealt, waiting_dealt, ahead_dealt}
 
 module _ {C : Type 0} where
-  pub below_more : (xs : List (Slot C)) (a i : ℕ) (d : Slot C) → i < length xs → below a (entries xs (i + 1)) ≡ below a (entries xs i) + cond (ltb (at xs d i).push a) 1 0
-  below_more xs a i d l = ap (λ (m : ℕ). below a (entries xs m)) (let z : i + 1 ≡ suc i = omega arith in z) ∙ go xs i l
+  pub count_below : (a : ℕ) (xs : List (Slot C)) → length (filter (λ s. ltb s.entry.push a) xs) ≡ below a (map entry_of xs)
+  count_below a [] = refl
+  count_below a (x ∷ xs) =
+      ⊎_elim
+      (λ t. ap length (cond-true (ltb x.entry.push a) (x ∷ filter (λ s. ltb s.entry.push a) xs) (filter (λ s. ltb s.entry.push a) xs) t) ∙ let o = cond-true {A = ℕ} (ltb x.entry.push a) 1 0 t in let z = count_below a xs in omega (arith, o, z))
+      (λ t. ap length (cond-false (ltb x.entry.push a) (x ∷ filter (λ s. ltb s.entry.push a) xs) (filter (λ s. ltb s.entry.push a) xs) t) ∙ let o = cond-false {A = ℕ} (ltb x.entry.push a) 1 0 t in let z = count_below a xs in omega (arith, o, z))
+      (cases_Bool (ltb x.entry.push a))
+
+  -- where the first i slots are numbered, the entries are what they were
+  pub entries_kept : (xs : List (Slot C)) (i : ℕ) → map entry_of (map (numbered (map entry_of xs)) (take i xs) ++ drop i xs) ≡ map entry_of xs
+  entries_kept xs i =
+      map-append entry_of (map (numbered (map entry_of xs)) (take i xs)) (drop i xs) ∙ ap (λ l. l ++ map entry_of (drop i xs)) (same (map entry_of xs) (take i xs))
+      ∙ sym (map-append entry_of (take i xs) (drop i xs)) ∙ ap (map entry_of) (take-append-drop i xs)
     where
-      go : (xs : List (Slot C)) (i : ℕ) → i < length xs → below a (entries xs (suc i)) ≡ below a (entries xs i) + cond (ltb (at xs d i).push a) 1 0
-      go [] i l = absurd (omega arith)
-      go (x ∷ xs) zero l = omega arith
-      go (x ∷ xs) (suc i) l = omega (arith, go xs i (omega arith))
+      same : (l : List (Entry C)) (ss : List (Slot C)) → map entry_of (map (numbered l) ss) ≡ map entry_of ss
+      same l [] = refl
+      same l (s ∷ ss) = ap (λ es. s.entry ∷ es) (same l ss)
 
-  pub entries_by : (f : Entry C → Entry C) (xs ys : List (Slot C)) (n : ℕ) → length ys ≡ length xs → ((k : ℕ) (d : Slot C) → k < n → at ys d k ≡ f (at xs d k)) → entries ys n ≡ map f (entries xs n)
-  entries_by f xs ys zero l h = refl
-  entries_by f [] [] (suc n) l h = refl
-  entries_by f [] (y ∷ ys) (suc n) l h = absurd (omega arith)
-  entries_by f (x ∷ xs) [] (suc n) l h = absurd (omega arith)
-  entries_by f (x ∷ xs) (y ∷ ys) (suc n) l h =
-      ap (λ (e : Entry C). e ∷ entries ys n) (h 0 x (omega arith)) ∙ ap (λ (es : List (Entry C)). f x.entry ∷ es) (entries_by f xs ys n (omega arith) (λ k d lt. h (suc k) d (omega arith)))
+  -- a pass over all
+  pub over_all : (f : Slot C → Slot C) (xs : List (Slot C)) (n : ℕ) → length xs ≤ n → map f (take n xs) ++ drop n xs ≡ map f xs
+  over_all f xs n l = ap (λ ys. map f ys ++ drop n xs) (take_all n xs l) ∙ ap (λ ys. map f xs ++ ys) (drop_all n xs l) ∙ append-nil (map f xs)
 
-  map_same : (l : List (Entry C)) → map (λ e. e) l ≡ l
-  map_same [] = refl
-  map_same (x ∷ l) = ap (λ (es : List (Entry C)). x ∷ es) (map_same l)
+  -- slots of which those in front are dealt anew
+  abbrev pub dealt_front : List (Slot C) → ℕ → List (Slot C)
+  dealt_front xs n = map relabelled (map (numbered (entries xs n)) (take n xs)) ++ drop n xs
 
-  pub entries_same : (xs ys : List (Slot C)) (n : ℕ) → length ys ≡ length xs → ((k : ℕ) (d : Slot C) → at ys d k ≡ at xs d k) → entries ys n ≡ entries xs n
-  entries_same xs ys n l h = entries_by (λ e. e) xs ys n l (λ k d lt. h k d) ∙ map_same (entries xs n)
+  module _ (xs : List (Slot C)) (n : ℕ) (ln : n ≤ length xs) where
+    long : length (map relabelled (map (numbered (entries xs n)) (take n xs))) ≡ n
+    long = length-map (map (numbered (entries xs n)) (take n xs)) relabelled ∙ length-map (take n xs) (numbered (entries xs n)) ∙ length-take-le n xs ln
 
-  length_entries : (xs : List (Slot C)) (n : ℕ) → n ≤ length xs → length (entries xs n) ≡ n
-  length_entries xs zero l = refl
-  length_entries [] (suc n) l = absurd (omega arith)
-  length_entries (x ∷ xs) (suc n) l = ap suc (length_entries xs n (omega arith))
+    pub dealt_long : length (dealt_front xs n) ≡ length xs
+    dealt_long = omega (arith, length-append (map relabelled (map (numbered (entries xs n)) (take n xs))) (drop n xs), length-drop n xs, long)
 
-  pub numbered_none : (xs : List (Slot C)) (n : ℕ) → Numbered xs xs n 0
-  numbered_none xs n = record { same = λ k d. refl; place = λ k d. refl; order = λ k d l. absurd (omega arith); long = refl }
+    front_at : (k : ℕ) (d : Slot C) → k < n → get_or (dealt_front xs n) k d ≡ relabelled (numbered (entries xs n) (get_or xs k d))
+    front_at k d lk =
+        get_or_append_left (map relabelled (map (numbered (entries xs n)) (take n xs))) (drop n xs) d k (omega (arith, long))
+        ∙ get_or-map relabelled (map (numbered (entries xs n)) (take n xs)) k d d (omega (arith, long, length-map (map (numbered (entries xs n)) (take n xs)) (relabelled {C = C})))
+        ∙ ap relabelled (get_or-map (numbered (entries xs n)) (take n xs) k d d (omega (arith, length-take-le n xs ln)) ∙ ap (numbered (entries xs n)) (get_or-take n xs k d lk))
 
-  pub numbered_more : (xs ys : List (Slot C)) (n i : ℕ) (s d₁ : Slot C) → i < length ys → Numbered xs ys n i → s.entry ≡ (get_or ys i d₁).entry → s.place ≡ (get_or ys i d₁).place → s.order ≡ below (at ys d₁ i).push (entries ys n) → Numbered xs (set ys i s) n (i + 1)
-  numbered_more xs ys n i s d₁ l v e p o =
-      record {
-        same = λ k d. same_field (λ (x : Slot C). x.entry) ys i s d₁ l e k d ∙ v.same k d;
-        place = λ k d. same_field (λ (x : Slot C). x.place) ys i s d₁ l p k d ∙ v.place k d;
-        order = λ k d lt. ⊎_elim (λ (q : k ≡ i). subst (λ (m : ℕ). (get_or (set ys i s) m d).order ≡ below (at xs d m).push (entries xs n)) (sym q) (here d)) (λ ne. ap (λ (x : Slot C). x.order) (get_or-set_other ys i k s d ne) ∙ v.order k d (omega (arith, ne))) (cases_eq k i);
-        long = length-set ys i s ∙ v.long;
-      }
-    where
-      here : (d : Slot C) → (get_or (set ys i s) i d).order ≡ below (at xs d i).push (entries xs n)
-      here d =
-          ap (λ (x : Slot C). x.order) (get_or-set_same ys i s d l) ∙ o
-          ∙ ap (λ (x : Slot C). below x.entry.push (entries ys n)) (get_or_default ys i d₁ d l)
-          ∙ ap (λ (x : Entry C). below x.push (entries ys n)) (v.same i d)
-          ∙ ap (below (at xs d i).push) (entries_same xs ys n v.long v.same)
+    back_at : (k : ℕ) (d : Slot C) → n ≤ k → get_or (dealt_front xs n) k d ≡ get_or xs k d
+    back_at k d le =
+        get_or-append_right (map relabelled (map (numbered (entries xs n)) (take n xs))) (drop n xs) n k d long le ∙ get_or-drop n xs (k - n) d
+        ∙ ap (λ (m : ℕ). get_or xs m d) (let z : n + (k - n) ≡ k = omega arith in z)
 
-  pub relabelled_none : (xs : List (Slot C)) → Relabelled xs xs 0
-  relabelled_none xs = record { fresh = λ k d l. absurd (omega arith); old = λ k d l. refl; order = λ k d. refl; place = λ k d. refl; long = refl }
+    place_at : (k : ℕ) (d : Slot C) → (get_or (dealt_front xs n) k d).place ≡ (get_or xs k d).place
+    place_at k d = ⊎_elim (λ (lk : k < n). ap (λ (s : Slot C). s.place) (front_at k d lk)) (λ le. ap (λ (s : Slot C). s.place) (back_at k d le)) (cases_lt k n)
 
-  pub relabelled_more : (xs ys : List (Slot C)) (i : ℕ) (s d₁ : Slot C) → i < length ys → Relabelled xs ys i → s.entry ≡ labelled (get_or ys i d₁).entry (get_or ys i d₁).order → s.order ≡ (get_or ys i d₁).order → s.place ≡ (get_or ys i d₁).place → Relabelled xs (set ys i s) (i + 1)
-  relabelled_more xs ys i s d₁ l v e o p =
-      record {
-        fresh = λ k d lt. ⊎_elim (λ (q : k ≡ i). subst (λ (m : ℕ). at (set ys i s) d m ≡ labelled (at xs d m) (get_or xs m d).order) (sym q) (here d)) (λ ne. ap (λ (x : Slot C). x.entry) (get_or-set_other ys i k s d ne) ∙ v.fresh k d (omega (arith, ne))) (cases_eq k i);
-        old = λ k d le. ap (λ (x : Slot C). x.entry) (get_or-set_other ys i k s d (λ q. omega (arith, q))) ∙ v.old k d (omega arith);
-        order = λ k d. same_field (λ (x : Slot C). x.order) ys i s d₁ l o k d ∙ v.order k d;
-        place = λ k d. same_field (λ (x : Slot C). x.place) ys i s d₁ l p k d ∙ v.place k d;
-        long = length-set ys i s ∙ v.long;
-      }
-    where
-      here : (d : Slot C) → at (set ys i s) d i ≡ labelled (at xs d i) (get_or xs i d).order
-      here d =
-          ap (λ (x : Slot C). x.entry) (get_or-set_same ys i s d l) ∙ e
-          ∙ ap (λ (x : Slot C). labelled x.entry x.order) (get_or_default ys i d₁ d l)
-          ∙ ap (λ (x : Entry C). labelled x (get_or ys i d).order) (v.old i d (omega arith))
-          ∙ ap (labelled (at xs d i)) (v.order i d)
+    pub dealt_placed : Placed xs n → Placed (dealt_front xs n) n
+    dealt_placed p k d lk =
+        let e : (at (dealt_front xs n) d k).row ≡ (at xs d k).row = ap (λ (s : Slot C). s.entry.row) (front_at k d lk) in
+        let l = (p k d lk).0 in
+        (omega (arith, dealt_long), place_at (at (dealt_front xs n) d k).row d ∙ ap (λ (r : ℕ). (get_or xs r d).place) e ∙ (p k d lk).1)
 
-  module _ (w : C → ℕ) (xs ys zs : List (Slot C)) (n : ℕ) (fits : n ≤ length xs) (a : Numbered xs ys n n) (b : Relabelled ys zs n) where
-    new : ℕ → ℕ
-    new p = below p (entries xs n)
+    -- the entries are those dealt anew
+    pub dealt_is : entries (dealt_front xs n) n ≡ map (dealt (λ p. below p (entries xs n))) (entries xs n)
+    dealt_is =
+        ap (map entry_of) (take-append-le n (map relabelled (map (numbered (entries xs n)) (take n xs))) (drop n xs) (omega (arith, long)) ∙ take_all n (map relabelled (map (numbered (entries xs n)) (take n xs))) (omega (arith, long)))
+        ∙ each (entries xs n) (take n xs)
+      where
+        each : (l : List (Entry C)) (ss : List (Slot C)) → map entry_of (map relabelled (map (numbered l) ss)) ≡ map (dealt (λ p. below p l)) (map entry_of ss)
+        each l [] = refl
+        each l (s ∷ ss) = ap (λ es. dealt (λ p. below p l) s.entry ∷ es) (each l ss)
 
-    is : (k : ℕ) (d : Slot C) → k < n → at zs d k ≡ dealt (λ p. below p (entries xs n)) (at xs d k)
-    is k d l =
-        b.fresh k d l
-        ∙ ap (λ (x : Entry C). labelled x (get_or ys k d).order) (a.same k d)
-        ∙ ap (labelled (at xs d k)) (a.order k d l)
+  module _ (w : C → ℕ) (es : List (Entry C)) where
+    abbrev pub anew : ℕ → ℕ
+    anew p = below p es
 
-    long : length zs ≡ length xs
-    long = b.long ∙ a.long
+    at_dealt : (k : ℕ) (d : Entry C) → k < length es → get_or (map (dealt anew) es) k d ≡ dealt anew (get_or es k d)
+    at_dealt k d l = get_or-map (dealt anew) es k d d l
 
-    pub dealt_placed : Placed xs n → Placed zs n
-    dealt_placed h k d l =
-        let e : (at zs d k).row ≡ (at xs d k).row = ap (λ (x : Entry C). x.row) (is k d l) in
-        let z : length zs ≡ length xs = long in
-        (omega (arith, e, z, (h k d l).0), ap (λ (r : ℕ). (get_or zs r d).place) e ∙ b.place (at xs d k).row d ∙ a.place (at xs d k).row d ∙ (h k d l).1)
-
-    pub dealt_apart : Apart xs n → Apart zs n
-    dealt_apart h j k d lj lk q =
-        let ej : (at zs d j).push ≡ below (at xs d j).push (entries xs n) = ap (λ (x : Entry C). x.push) (is j d lj) in
-        let ek : (at zs d k).push ≡ below (at xs d k).push (entries xs n) = ap (λ (x : Entry C). x.push) (is k d lk) in
+    pub dealt_apart : Apart es → Apart (map (dealt anew) es)
+    dealt_apart a =
+        IsDistinct-from_apart (λ (x y : Entry C). eqb x.push y.push) (map (dealt anew) es)
+        (λ i j d lt lj'.
+        let lj : j < length es = omega (arith, length-map es (dealt anew)) in
+        let x : Entry C = get_or es i d in
+        let y : Entry C = get_or es j d in
+        let ei = ap (λ (v : Entry C). v.push) (at_dealt i d (omega arith)) in
+        let ej = ap (λ (v : Entry C). v.push) (at_dealt j d lj) in
+        let ne : x.push ≡ y.push → ⊥ = eqb-false x.push y.push (apart_from_distinct (λ (x y : Entry C). eqb x.push y.push) es i j d a lt lj) in
+        ne_eqb _ _
+        (λ q.
         ⊎_elim
-        (λ (l : (at xs d j).push < (at xs d k).push). absurd (omega (arith, ej, ek, q, below_lt (at xs d j) (at xs d k).push (entries xs n) (mem_at xs n j d lj fits) l)))
-        (λ g.
-        ⊎_elim
-        (λ (l : (at xs d k).push < (at xs d j).push). absurd (omega (arith, ej, ek, q, below_lt (at xs d k) (at xs d j).push (entries xs n) (mem_at xs n k d lk fits) l)))
-        (λ g'. h j k d lj lk (omega arith))
-        (cases_lt (at xs d k).push (at xs d j).push))
-        (cases_lt (at xs d j).push (at xs d k).push)
+        (λ (l : x.push < y.push). let b = below_lt x y.push es (mem_get es i d (omega arith)) l in omega (arith, ei, ej, q, b))
+        (λ g. let b = below_lt y x.push es (mem_get es j d lj) (omega (arith, g, ne)) in omega (arith, ei, ej, q, b))
+        (cases_lt x.push y.push)))
 
-    pub dealt_counted : Counted zs n n
-    dealt_counted k d l =
-        let e : (at zs d k).push ≡ below (at xs d k).push (entries xs n) = ap (λ (x : Entry C). x.push) (is k d l) in
-        omega (arith, e, below_fits (at xs d k) (entries xs n) (mem_at xs n k d l fits), length_entries xs n fits)
+    pub dealt_counted : Counted (map (dealt anew) es) (length es)
+    dealt_counted k d lk' =
+        let lk : k < length es = omega (arith, length-map es (dealt anew)) in
+        let e = ap (λ (v : Entry C). v.push) (at_dealt k d lk) in
+        omega (arith, e, below_fits (get_or es k d) es (mem_get es k d lk))
 
-    pub dealt_heaped : Heaped w xs n → Heaped w zs n
-    dealt_heaped h d p i l1 l2 l3 =
-        let f : ℕ → ℕ = λ q. below q (entries xs n) in
-        let t : Ahead w (dealt f (at xs d p)) (dealt f (at xs d i)) = ahead_dealt w f (at xs d p) (at xs d i) (λ le. below_le (at xs d p).push (at xs d i).push (entries xs n) le) (h d p i l1 l2 l3) in
-        subst (λ (x : Entry C). Ahead w x (at zs d i)) (sym (is p d (omega arith))) (subst (λ (x : Entry C). Ahead w (dealt f (at xs d p)) x) (sym (is i d l3)) t)
+    pub dealt_heaped : Heaped w es → Heaped w (map (dealt anew) es)
+    dealt_heaped h d p i l1 l2 l3' =
+        let l3 : i < length es = omega (arith, length-map es (dealt anew)) in
+        let x : Entry C = get_or es p d in
+        let y : Entry C = get_or es i d in
+        let t : Ahead w (dealt anew x) (dealt anew y) = ahead_dealt w anew x y (λ le. below_le x.push y.push es le) (h d p i l1 l2 l3) in
+        subst (λ (v : Entry C). Ahead w v (get_or (map (dealt anew) es) i d)) (sym (at_dealt p d (omega arith))) (subst (λ (v : Entry C). Ahead w (dealt anew x) v) (sym (at_dealt i d l3)) t)
 
-    pub dealt_queue : queue zs n ≡ queue xs n
+    pub dealt_queue : queue (map (dealt anew) es) ≡ queue es
     unfolding queue
-    dealt_queue =
-        let f : ℕ → ℕ = λ q. below q (entries xs n) in
-        ap (λ (l : List (Entry C)). map waiting (by_push l)) (entries_by (dealt f) xs zs n long (λ k d l. is k d l))
-        ∙ ap (map waiting) (by_push_dealt f (entries xs n) (keeps_below (entries xs n)))
-        ∙ waiting_dealt f (by_push (entries xs n))
-
-pub some_slot : {C : Type 0} (l : List (Slot C)) (j : ℕ) → j < length l → Slot C
-some_slot [] j h = absurd (omega arith)
-some_slot (x ∷ l) j h = x
+    dealt_queue = ap (map waiting) (by_push_dealt anew es (keeps_below es)) ∙ waiting_dealt anew (by_push es)

@@ -2,7 +2,6 @@ pub mod Seats
 pub mod Sifts
 pub mod Queues
 pub mod Turns
-pub mod Empties
 pub mod Buckets
 pub mod Deals
 pub mod Dealing

@@ -1,10 +1,13 @@
--- What waits, in the order of the pushes, by the entries that stand in the slots.
-use Rattle.std.proofs.Common.{◌≡◌, ℕ, zero, suc, ◌<◌, ◌≤◌, Bool, true, false, cond, ltb, ◌⊎◌, List, [], ◌∷◌, length, sym, refl, ap, ◌∙◌, subst, inl, inr, ⊎_elim, arith}
-use Rattle.std.proofs.lemmas.Bool.{cases_eq, ltb-true, ltb-false}
+-- Lists in the order of the pushes.
+use Rattle.std.proofs.Common.{◌≡◌, ◌∙◌, ℕ, zero, suc, ◌<◌, ◌≤◌, Bool, true, false, cond, ltb, eqb, ◌⊎◌, List, [], ◌∷◌, length, get_or, sym, refl, ap, subst, inl, inr, ⊎_elim, arith}
+use Rattle.std.specs.List.{Contains, AllByRecursion, IsDistinct}
+use Rattle.std.specs.List.Sorted.{IsPermutation}
+use Rattle.std.proofs.lemmas.Bool.{cases_eq, ltb-true, ltb-false, eqb-false, eq-eqb, ne_eqb}
+use Rattle.std.proofs.lemmas.List.Sorted.{Contains-permutation, IsPermutation-sym}
+use Rattle.std.proofs.lemmas.Map.Keys.{IsDistinct-head, IsDistinct-tail, IsDistinct-IsPermutation}
 use Rattle.store.specs.declared.slots.Entry.{Entry}
-use Rattle.store.specs.declared.slots.Slot.{Slot}
-use Rattle.store.specs.Slots.{at, In, Apart}
-use Rattle.store.specs.Queue.{among, by_push, entries}
+use Rattle.store.specs.Slots.{Apart}
+use Rattle.store.specs.Queue.{among, by_push}
 
 abbrev pub Mem : {X : Type 0} → X → List X → Type 0
 Mem x [] = ⊥
@@ -87,36 +90,49 @@ climb_unique {C} (x ∷ xs) (y ∷ ys) c d p q =
     λ z m. ⊎_elim (λ (h : z ≡ x). let a : y.push < z.push = d.0 z m in let b : z.push ≡ x.push = ap (λ (v : Entry C). v.push) h in absurd (omega arith)) (λ h. h) (q z (inr m)) in
     ap (λ v. v ∷ xs) e ∙ ap (λ l. y ∷ l) (climb_unique xs ys c.1 d.1 up down)
 
--- the entry of a place is a member, and the other way round
-pub mem_at : {C : Type 0} (xs : List (Slot C)) (n k : ℕ) (d : Slot C) → k < n → n ≤ length xs → Mem (at xs d k) (entries xs n)
-mem_at [] n k d a b = absurd (omega arith)
-mem_at (s ∷ xs) zero k d a b = absurd (omega arith)
-mem_at (s ∷ xs) (suc n) zero d a b = inl refl
-mem_at (s ∷ xs) (suc n) (suc k) d a b = inr (mem_at xs n k d (omega arith) (omega arith))
+-- members by their places
+pub mem_get : {X : Type 0} (xs : List X) (k : ℕ) (d : X) → k < length xs → Mem (get_or xs k d) xs
+mem_get [] k d l = absurd (omega arith)
+mem_get (x ∷ xs) zero d l = inl refl
+mem_get (x ∷ xs) (suc k) d l = inr (mem_get xs k d (omega arith))
 
-pub in_from_mem : {C : Type 0} (xs : List (Slot C)) (n : ℕ) (e : Entry C) → Mem e (entries xs n) → In xs n e
-in_from_mem [] zero e m = absurd m
-in_from_mem [] (suc n) e m = absurd m
-in_from_mem (s ∷ xs) zero e m = absurd m
-in_from_mem {C} (s ∷ xs) (suc n) e m =
-    ⊎_elim
-    (λ (q : e ≡ s.entry). (0, omega arith, λ (d : Slot C). sym q))
-    (λ h. let r = in_from_mem xs n e h in (suc r.0, omega (arith, r.1), r.2))
-    m
+pub mem_from_contains : {X : Type 0} (xs : List X) (x : X) → Contains xs x → Mem x xs
+mem_from_contains xs x (k, lk, q) = subst (λ v. Mem v xs) q (mem_get xs k x lk)
 
-pub mem_from_in : {C : Type 0} (xs : List (Slot C)) (n : ℕ) (e : Entry C) → n ≤ length xs → In xs n e → Mem e (entries xs n)
-mem_from_in [] n e b i = absurd (omega (arith, i.1))
-mem_from_in {C} (s ∷ xs) n e b i =
-    subst (λ (v : Entry C). Mem v (entries (s ∷ xs) n)) (i.2 s) (mem_at (s ∷ xs) n i.0 s i.1 b)
+pub contains_from_mem : {X : Type 0} (xs : List X) (x : X) → Mem x xs → Contains xs x
+contains_from_mem [] x m = absurd m
+contains_from_mem (y ∷ ys) x m =
+    ⊎_elim (λ (q : x ≡ y). (0, omega arith, sym q)) (λ h. let r = contains_from_mem ys x h in (suc r.0, omega (arith, r.1), r.2)) m
 
-pub diff_from_apart : {C : Type 0} (xs : List (Slot C)) (n : ℕ) → Apart xs n → Diff (entries xs n)
-diff_from_apart [] zero a = tt
-diff_from_apart [] (suc n) a = tt
-diff_from_apart (s ∷ xs) zero a = tt
-diff_from_apart {C} (s ∷ xs) (suc n) a = (
-  λ y m q.
-      let i = in_from_mem xs n y m in
-      let z : 0 ≡ suc i.0 = a 0 (suc i.0) s (omega arith) (omega (arith, i.1)) (sym q ∙ ap (λ (v : Entry C). v.push) (sym (i.2 s))) in
-      omega arith,
-  diff_from_apart xs n (λ j k d lj lk q. let z : suc j ≡ suc k = a (suc j) (suc k) d (omega arith) (omega arith) q in omega arith),
-)
+pub mem_permuted : {X : Type 0} (xs ys : List X) (x : X) → IsPermutation xs ys → Mem x xs → Mem x ys
+mem_permuted xs ys x p m = mem_from_contains ys x (Contains-permutation xs ys x p (contains_from_mem xs x m))
+
+pub mem_all : {X : Type 0} (P : X → Type 0) (xs : List X) (x : X) → AllByRecursion P xs → Mem x xs → P x
+mem_all P [] x a m = absurd m
+mem_all {X} P (y ∷ ys) x a m = ⊎_elim (λ (q : x ≡ y). subst P (sym q) a.0) (λ h. mem_all P ys x a.1 h) m
+
+pub all_mem : {X : Type 0} (P : X → Type 0) (xs : List X) → ((x : X) → Mem x xs → P x) → AllByRecursion P xs
+all_mem P [] h = tt
+all_mem P (x ∷ xs) h = (h x (inl refl), all_mem P xs (λ y m. h y (inr m)))
+
+pub diff_from_apart : {C : Type 0} (es : List (Entry C)) → Apart es → Diff es
+diff_from_apart [] a = tt
+diff_from_apart {C} (x ∷ xs) a =
+    let h = IsDistinct-head (λ (a b : Entry C). eqb a.push b.push) x xs a in (
+      λ y m q. eqb-false x.push y.push (mem_all (λ (b : Entry C). eqb x.push b.push ≡ false) xs y h m) (sym q),
+      diff_from_apart xs (IsDistinct-tail (λ (a b : Entry C). eqb a.push b.push) x xs a),
+    )
+
+eqb_flips : (a b : ℕ) → eqb a b ≡ eqb b a
+eqb_flips a b = ⊎_elim (λ (q : a ≡ b). eq-eqb a b q ∙ sym (eq-eqb b a (sym q))) (λ ne. ne_eqb a b ne ∙ sym (ne_eqb b a (λ q. ne (sym q)))) (cases_eq a b)
+
+pub differ_permuted : {C : Type 0} (f : Entry C → ℕ) (xs ys : List (Entry C)) → IsPermutation xs ys → IsDistinct (λ a b. eqb (f a) (f b)) xs → IsDistinct (λ a b. eqb (f a) (f b)) ys
+differ_permuted f xs ys p d = IsDistinct-IsPermutation (λ a b. eqb (f a) (f b)) (λ a b. eqb_flips (f a) (f b)) xs ys p d
+
+-- the order of the pushes is one, whatever the places are
+pub by_push_permuted : {C : Type 0} (xs ys : List (Entry C)) → IsPermutation xs ys → Apart xs → by_push xs ≡ by_push ys
+by_push_permuted {C} xs ys p a =
+    let az : Apart ys = differ_permuted (λ (e : Entry C). e.push) xs ys p a in
+    climb_unique (by_push xs) (by_push ys) (climb_by_push xs (diff_from_apart xs a)) (climb_by_push ys (diff_from_apart ys az))
+    (λ z m. mem_by_push_from z ys (mem_permuted xs ys z p (mem_by_push_to z xs m)))
+    (λ z m. mem_by_push_from z xs (mem_permuted ys xs z (IsPermutation-sym xs ys p) (mem_by_push_to z ys m)))

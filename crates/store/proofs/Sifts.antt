@@ -1,9 +1,9 @@
 -- What moves an entry up or down keeps the order of the others.
-use Rattle.std.proofs.Common.{◌≡◌, ℕ, zero, suc, ◌+◌, ◌-◌, ◌*◌, ◌/◌, ◌<◌, ◌≤◌, List, sym, refl, ap, ◌∙◌, subst, ⊎_elim, arith}
+use Rattle.std.proofs.Common.{◌≡◌, ℕ, zero, suc, ◌+◌, ◌-◌, ◌*◌, ◌/◌, ◌<◌, ◌≤◌, sym, refl, ap, ◌∙◌, subst, ⊎_elim, arith}
 use Rattle.std.proofs.lemmas.Bool.{cases_eq}
+use Rattle.std.proofs.lemmas.List.Edits.{Swapped}
 use Rattle.store.specs.declared.slots.Entry.{Entry}
-use Rattle.store.specs.declared.slots.Slot.{Slot}
-use Rattle.store.specs.Slots.{Ahead, Order, Loose, at, Exchanged}
+use Rattle.store.specs.Slots.{Ahead, Order, Loose}
 
 pub ahead_trans : {C : Type 0} (w : C → ℕ) (a b c : Entry C) → Ahead w a b → Ahead w b c → Ahead w a c
 ahead_trans w a b c p q = (
@@ -21,16 +21,12 @@ ahead_trans w a b c p q = (
       ),
 )
 
--- the entries at a and b change places
-abbrev pub Crossed : {E : Type 0} → (ℕ → E) → (ℕ → E) → ℕ → ℕ → Type 0
-Crossed f g a b = (g a ≡ f b) × (g b ≡ f a) × ((m : ℕ) → (m ≡ a → ⊥) → (m ≡ b → ⊥) → g m ≡ f m)
-
 module _ {E : Type 0} (R : E → E → Type 0) (trans : (a b c : E) → R a b → R b c → R a c) (f g : ℕ → E) (n : ℕ) where
   via : (a b c d : E) → a ≡ c → b ≡ d → R c d → R a b
   via a b c d p q r = subst (λ x. R x b) (sym p) (subst (λ x. R c x) (sym q) r)
 
   -- one step up: the entry at h goes to its parent u, whose entry it is ahead of
-  pub loose_up : (h u : ℕ) → 2 * u < h → h ≤ 2 * u + 2 → h < n → Crossed f g h u → Loose R f n h → Loose R g n u
+  pub loose_up : (h u : ℕ) → 2 * u < h → h ≤ 2 * u + 2 → h < n → Swapped f g h u → Loose R f n h → Loose R g n u
   loose_up h u lo hi lh x l = (
     λ p i a b c ni np.
         let ih : i ≡ h → ⊥ = λ q. np (omega arith) in
@@ -53,7 +49,7 @@ module _ {E : Type 0} (R : E → E → Type 0) (trans : (a b c : E) → R a b �
   )
 
   -- one step down: the entry at h changes places with its child c, which is ahead of it and of the other child
-  pub loose_down : (h c : ℕ) → 2 * h < c → c ≤ 2 * h + 2 → c < n → Crossed f g h c → ((i : ℕ) → 2 * h < i → i ≤ 2 * h + 2 → i < n → R (f c) (f i)) → ((p : ℕ) → 2 * p < h → h ≤ 2 * p + 2 → R (f p) (f h)) → Loose R f n h → Loose R g n c
+  pub loose_down : (h c : ℕ) → 2 * h < c → c ≤ 2 * h + 2 → c < n → Swapped f g h c → ((i : ℕ) → 2 * h < i → i ≤ 2 * h + 2 → i < n → R (f c) (f i)) → ((p : ℕ) → 2 * p < h → h ≤ 2 * p + 2 → R (f p) (f h)) → Loose R f n h → Loose R g n c
   loose_down h c lo hi lc x best under l = (
     λ p i a b e ni np.
         ⊎_elim
@@ -86,21 +82,16 @@ module _ {E : Type 0} (R : E → E → Type 0) (trans : (a b c : E) → R a b �
       (cases_eq i h))
       (cases_eq p h)
 
-  pub under_down : (h c : ℕ) → 2 * h < c → c ≤ 2 * h + 2 → Crossed f g h c → R (f c) (f h) → (p : ℕ) → 2 * p < c → c ≤ 2 * p + 2 → R (g p) (g c)
+  pub under_down : (h c : ℕ) → 2 * h < c → c ≤ 2 * h + 2 → Swapped f g h c → R (f c) (f h) → (p : ℕ) → 2 * p < c → c ≤ 2 * p + 2 → R (g p) (g c)
   under_down h c lo hi x r p a b =
       let ph : p ≡ h = omega arith in
       via (g p) (g c) (f c) (f h) (ap g ph ∙ x.0) x.1 r
 
-  pub under_at : (h u : ℕ) → 2 * u < h → h ≤ 2 * u + 2 → R (f u) (f h) → (p : ℕ) → 2 * p < h → h ≤ 2 * p + 2 → R (f p) (f h)
-  under_at h u lo hi r p a b =
-      let pu : p ≡ u = omega arith in
-      via (f p) (f h) (f u) (f h) (ap f pu) refl r
-
   -- the entry at h may change
-  pub loose_kept : (h : ℕ) → ((m : ℕ) → (m ≡ h → ⊥) → g m ≡ f m) → Loose R f n h → Loose R g n h
+  pub loose_kept : (h : ℕ) → ((m : ℕ) → m < n → (m ≡ h → ⊥) → g m ≡ f m) → Loose R f n h → Loose R g n h
   loose_kept h k l = (
-    λ p i a b c ni np. via (g p) (g i) (f p) (f i) (k p np) (k i ni) (l.0 p i a b c ni np),
-    λ p i a b c d e. via (g p) (g i) (f p) (f i) (k p (λ q. omega arith)) (k i (λ q. omega arith)) (l.1 p i a b c d e),
+    λ p i a b c ni np. via (g p) (g i) (f p) (f i) (k p (omega arith) np) (k i c ni) (l.0 p i a b c ni np),
+    λ p i a b c d e. via (g p) (g i) (f p) (f i) (k p (omega arith) (λ q. omega arith)) (k i e (λ q. omega arith)) (l.1 p i a b c d e),
   )
 
   pub loose_in : (h : ℕ) → h < n → Order R f n → Loose R f n h
@@ -124,14 +115,3 @@ module _ {E : Type 0} (R : E → E → Type 0) (trans : (a b c : E) → R a b �
 
 pub ahead_refl : {C : Type 0} (w : C → ℕ) (a : Entry C) → Ahead w a a
 ahead_refl w a = (omega arith, λ e. (omega arith, λ f. omega arith))
-
--- what holds of both children holds of each
-pub kids : (P : ℕ → Type 0) (h n : ℕ) → P (2 * h + 1) → (2 * h + 1 + 1 < n → P (2 * h + 1 + 1)) → (i : ℕ) → 2 * h < i → i ≤ 2 * h + 2 → i < n → P i
-kids P h n left right i a b c =
-    ⊎_elim
-    (λ (q : i ≡ 2 * h + 1). subst P (sym q) left)
-    (λ ne. let q : i ≡ 2 * h + 1 + 1 = omega arith in subst P (sym q) (right (omega arith)))
-    (cases_eq i (2 * h + 1))
-
-pub crossed_at : {C : Type 0} (xs ys : List (Slot C)) (i j : ℕ) → Exchanged xs ys i j → (d : Slot C) → Crossed (at xs d) (at ys d) i j
-crossed_at xs ys i j x d = (x.first d, x.second d, λ k ni nj. x.others k d ni nj)

@@ -1,122 +1,91 @@
--- A push and a pop of the slots are a push and a pop of the list.
-use Rattle.std.proofs.Common.{◌≡◌, ℕ, zero, suc, ◌+◌, ◌<◌, ◌≤◌, true, false, cond, eqb, ltb, ◌⊎◌, List, [], ◌∷◌, ◌++◌, map, length, get_or, Some, None, sym, refl, ap, ◌∙◌, subst, inl, inr, ⊎_elim, arith}
-use Rattle.std.proofs.lemmas.List.{map-append, get_or_default}
-use Rattle.std.proofs.lemmas.Bool.{cases_eq, cases_Bool, eqb-true, eqb-false, cond-true, cond-false, lt-ltb, le-ltb, eq-eqb, ne_eqb}
+-- A push and a pop of the entries are a push and a pop of the list.
+use Rattle.std.proofs.Common.{◌≡◌, ℕ, zero, suc, ◌+◌, ◌-◌, ◌*◌, ◌<◌, ◌≤◌, max, true, false, cond, eqb, ltb, ◌⊎◌, List, [], ◌∷◌, ◌++◌, map, length, get_or, take, drop, set, Option, Some, None, sym, refl, ap, ◌∙◌, subst, inl, inr, ⊎_elim, length-append, arith}
+use Rattle.std.specs.List.{IsDistinct, remove, swap_remove}
+use Rattle.std.specs.Option.{MatchOption, unwrap_or}
+use Rattle.std.specs.List.Sorted.{IsPermutation}
+use Rattle.std.proofs.lemmas.List.{map-append, length-map, length-set, length-take-le, get_or_default, get_or_append_left, get_or-set_same, get_or-set_other, get_or-take, take-set, drop-set-lt}
+use Rattle.std.proofs.lemmas.List.Elements.{All-contains}
+use Rattle.std.proofs.lemmas.List.Sorted.{IsPermutation-sym, IsPermutation-remove, IsPermutation-swap_remove, IsPermutation-to_front, length_permutation}
+use Rattle.std.proofs.lemmas.Map.Keys.{IsDistinct-head, IsDistinct-tail, IsDistinct-cons}
+use Rattle.std.proofs.lemmas.Bool.{cases_eq, cases_Bool, eqb-false, cond-true, cond-false, lt-ltb, le-ltb, eq-eqb, ne_eqb}
 use Rattle.store.specs.declared.slots.Entry.{Entry}
 use Rattle.store.specs.declared.slots.Slot.{Slot}
-use Rattle.store.specs.Slots.{at, Ahead, In, Apart, Placed, Counted, Same, Seated, Heaped}
-use Rattle.store.proofs.Sifts.{ahead_trans, ahead_refl, order_top}
-use Rattle.store.specs.Queue.{waiting, by_push, entries, queue, without, pushed, overtakes, sooner, first_out}
-use Rattle.store.proofs.Queues.{Mem, Climb, by_test, mem_by_push_to, mem_by_push_from, climb_by_push, climb_unique, in_from_mem, mem_from_in, diff_from_apart}
+use Rattle.store.specs.Slots.{at, nth, entries, Ahead, Apart, Placed, Counted, Seated, Heaped, HeapedBut, Loose, Sound}
+use Rattle.store.specs.Queue.{waiting, among, by_push, queue, without, pushed, overtakes, sooner, first_out}
+use Rattle.store.proofs.Seats.{length_entries, entries_at, entries_less, entries_over, entries_next, rows_differ, over_placed, next_placed}
+use Rattle.store.proofs.Sifts.{ahead_trans, ahead_refl, order_top, loose_kept, loose_in, loose_new, loose_top}
+use Rattle.store.proofs.Queues.{Mem, Climb, mem_get, mem_all, all_mem, mem_permuted, contains_from_mem, mem_by_push_to, mem_by_push_from, climb_by_push, diff_from_apart, differ_permuted, by_push_permuted}
 
--- what a push leaves among the members
-abbrev pub Added : {C : Type 0} → List (Slot C) → ℕ → List (Slot C) → ℕ → Entry C → Type 0
-Added {C} xs n ys m e =
-    ((f : Entry C) → In ys m f → (f ≡ e) ⊎ (In xs n f × (f.row ≡ e.row → ⊥)))
-    × ((f : Entry C) → (f ≡ e) ⊎ (In xs n f × (f.row ≡ e.row → ⊥)) → In ys m f)
+-- an entry with the latest push comes last
+among_last : {C : Type 0} (x : Entry C) (l : List (Entry C)) → ((y : Entry C) → Mem y l → y.push < x.push) → among x l ≡ l ++ x ∷ []
+among_last x [] h = refl
+among_last x (y ∷ ys) h =
+    let lt : y.push < x.push = h y (inl refl) in
+    cond-false (ltb x.push y.push) (x ∷ y ∷ ys) (y ∷ among x ys) (le-ltb x.push y.push (omega arith)) ∙ ap (λ l. y ∷ l) (among_last x ys (λ z m. h z (inr m)))
 
--- and a pop
-abbrev pub Gone : {C : Type 0} → List (Slot C) → ℕ → List (Slot C) → ℕ → Entry C → Type 0
-Gone {C} xs n ys m e =
-    ((f : Entry C) → In ys m f → In xs n f × (f.row ≡ e.row → ⊥))
-    × ((f : Entry C) → In xs n f → (f.row ≡ e.row → ⊥) → In ys m f)
+-- without a row that has no entry
+without_none : {C : Type 0} (r : ℕ) (l : List (Entry C)) → ((y : Entry C) → Mem y l → y.row ≡ r → ⊥) → without r (map waiting l) ≡ map waiting l
+without_none r [] h = refl
+without_none r (x ∷ xs) h =
+    cond-false (eqb x.row r) (without r (map waiting xs)) (waiting x ∷ without r (map waiting xs)) (ne_eqb x.row r (h x (inl refl))) ∙ ap (λ l. waiting x ∷ l) (without_none r xs (λ y m. h y (inr m)))
 
-pub added_same : {C : Type 0} (xs ys zs : List (Slot C)) (n m : ℕ) (e : Entry C) → Added xs n ys m e → Same ys zs m → Added xs n zs m e
-added_same xs ys zs n m e a s = (λ f i. a.0 f (s.1 f i), λ f i. s.0 f (a.1 f i))
+without_among : {C : Type 0} (x : Entry C) (l : List (Entry C)) → ((y : Entry C) → Mem y l → y.row ≡ x.row → ⊥) → without x.row (map waiting (among x l)) ≡ map waiting l
+without_among x [] h = cond-true (eqb x.row x.row) [] (waiting x ∷ []) (eq-eqb x.row x.row refl)
+without_among x (y ∷ ys) h =
+    ⊎_elim
+    (λ t.
+    ap (λ l. without x.row (map waiting l)) (cond-true (ltb x.push y.push) (x ∷ y ∷ ys) (y ∷ among x ys) t)
+    ∙ cond-true (eqb x.row x.row) (without x.row (map waiting (y ∷ ys))) (waiting x ∷ without x.row (map waiting (y ∷ ys))) (eq-eqb x.row x.row refl)
+    ∙ without_none x.row (y ∷ ys) h)
+    (λ t.
+    ap (λ l. without x.row (map waiting l)) (cond-false (ltb x.push y.push) (x ∷ y ∷ ys) (y ∷ among x ys) t)
+    ∙ cond-false (eqb y.row x.row) (without x.row (map waiting (among x ys))) (waiting y ∷ without x.row (map waiting (among x ys))) (ne_eqb y.row x.row (h y (inl refl)))
+    ∙ ap (λ l. waiting y ∷ l) (without_among x ys (λ z m. h z (inr m))))
+    (cases_Bool (ltb x.push y.push))
 
-pub gone_same : {C : Type 0} (xs ys zs : List (Slot C)) (n m : ℕ) (e : Entry C) → Gone xs n ys m e → Same ys zs m → Gone xs n zs m e
-gone_same xs ys zs n m e a s = (λ f i. a.0 f (s.1 f i), λ f i r. s.0 f (a.1 f i r))
+-- the queue without one of its entries
+pub queue_rest : {C : Type 0} (es rest : List (Entry C)) (x : Entry C) → IsPermutation es (x ∷ rest) → Apart es → IsDistinct (λ a b. eqb a.row b.row) es → without x.row (queue es) ≡ queue rest
+unfolding queue
+queue_rest {C} es rest x p a r =
+    let h = IsDistinct-head (λ (a b : Entry C). eqb a.row b.row) x rest (differ_permuted (λ (e : Entry C). e.row) es (x ∷ rest) p r) in
+    ap (λ l. without x.row (map waiting l)) (by_push_permuted es (x ∷ rest) p a)
+    ∙ without_among x (by_push rest) (λ y m q. eqb-false x.row y.row (mem_all (λ (b : Entry C). eqb x.row b.row ≡ false) rest y h (mem_by_push_to y rest m)) (sym q))
 
--- the entries as a list without row r
-abbrev pub drop_row : {C : Type 0} → ℕ → List (Entry C) → List (Entry C)
-drop_row r [] = []
-drop_row r (x ∷ xs) = cond (eqb x.row r) (drop_row r xs) (x ∷ drop_row r xs)
+-- a queue that has no entry of a row
+pub queue_without : {C : Type 0} (r : ℕ) (es : List (Entry C)) → ((y : Entry C) → Mem y es → y.row ≡ r → ⊥) → without r (queue es) ≡ queue es
+unfolding queue
+queue_without r es h = without_none r (by_push es) (λ y m. h y (mem_by_push_to y es m))
 
-map_drop_row : {C : Type 0} (r : ℕ) (l : List (Entry C)) → map waiting (drop_row r l) ≡ without r (map waiting l)
-map_drop_row r [] = refl
-map_drop_row {C} r (x ∷ xs) =
-    elim (cases_Bool (eqb x.row r)) [
-      | inl t ↦ ap (map waiting) (cond-true (eqb x.row r) (drop_row r xs) (x ∷ drop_row r xs) t) ∙ map_drop_row r xs ∙ sym (cond-true (eqb x.row r) (without r (map waiting xs)) (waiting x ∷ without r (map waiting xs)) t)
-      | inr t ↦ ap (map waiting) (cond-false (eqb x.row r) (drop_row r xs) (x ∷ drop_row r xs) t) ∙ ap (λ l. waiting x ∷ l) (map_drop_row r xs) ∙ sym (cond-false (eqb x.row r) (without r (map waiting xs)) (waiting x ∷ without r (map waiting xs)) t)
+-- and with a last one
+pub queue_last : {C : Type 0} (es rest : List (Entry C)) (x : Entry C) → IsPermutation es (x ∷ rest) → Apart es → ((y : Entry C) → Mem y rest → y.push < x.push) → queue es ≡ queue rest ++ waiting x ∷ []
+unfolding queue
+queue_last es rest x p a h =
+    ap (map waiting) (by_push_permuted es (x ∷ rest) p a ∙ among_last x (by_push rest) (λ y m. h y (mem_by_push_to y rest m))) ∙ map-append waiting (by_push rest) (x ∷ [])
+
+pub queue_permuted : {C : Type 0} (es fs : List (Entry C)) → IsPermutation es fs → Apart es → queue es ≡ queue fs
+unfolding queue
+queue_permuted es fs p a = ap (map waiting) (by_push_permuted es fs p a)
+
+pub queue_none : {C : Type 0} → queue {C = C} [] ≡ []
+unfolding queue
+queue_none = refl
+
+length_among : {C : Type 0} (x : Entry C) (l : List (Entry C)) → length (among x l) ≡ suc (length l)
+length_among x [] = refl
+length_among x (y ∷ ys) =
+    elim (cases_Bool (ltb x.push y.push)) [
+      | inl t ↦ ap length (cond-true (ltb x.push y.push) (x ∷ y ∷ ys) (y ∷ among x ys) t)
+      | inr t ↦ ap length (cond-false (ltb x.push y.push) (x ∷ y ∷ ys) (y ∷ among x ys) t) ∙ ap suc (length_among x ys)
     ]
 
-mem_drop_row_to : {C : Type 0} (r : ℕ) (z : Entry C) (l : List (Entry C)) → Mem z (drop_row r l) → Mem z l × (z.row ≡ r → ⊥)
-mem_drop_row_to r z [] m = absurd m
-mem_drop_row_to {C} r z (x ∷ xs) m =
-    by_test (λ (l : List (Entry C)). Mem z l → Mem z (x ∷ xs) × (z.row ≡ r → ⊥)) (eqb x.row r) (drop_row r xs) (x ∷ drop_row r xs)
-    (λ t h. let k = mem_drop_row_to r z xs h in (inr k.0, k.1))
-    (λ t h. ⊎_elim (λ (e : z ≡ x). (inl e, λ q. eqb-false x.row r t (ap (λ (v : Entry C). v.row) (sym e) ∙ q))) (λ h'. let k = mem_drop_row_to r z xs h' in (inr k.0, k.1)) h)
-    m
+length_by_push : {C : Type 0} (l : List (Entry C)) → length (by_push l) ≡ length l
+length_by_push [] = refl
+length_by_push (x ∷ xs) = length_among x (by_push xs) ∙ ap suc (length_by_push xs)
 
-mem_drop_row_from : {C : Type 0} (r : ℕ) (z : Entry C) (l : List (Entry C)) → Mem z l → (z.row ≡ r → ⊥) → Mem z (drop_row r l)
-mem_drop_row_from r z [] m ne = absurd m
-mem_drop_row_from {C} r z (x ∷ xs) m ne =
-    by_test (λ (l : List (Entry C)). Mem z l) (eqb x.row r) (drop_row r xs) (x ∷ drop_row r xs)
-    (λ t. ⊎_elim (λ (e : z ≡ x). absurd (ne (ap (λ (v : Entry C). v.row) e ∙ eqb-true x.row r t))) (λ h. mem_drop_row_from r z xs h ne) m)
-    (λ t. ⊎_elim (λ e. inl e) (λ h. inr (mem_drop_row_from r z xs h ne)) m)
-
-climb_drop_row : {C : Type 0} (r : ℕ) (l : List (Entry C)) → Climb l → Climb (drop_row r l)
-climb_drop_row r [] c = tt
-climb_drop_row {C} r (x ∷ xs) c =
-    by_test (λ (l : List (Entry C)). Climb l) (eqb x.row r) (drop_row r xs) (x ∷ drop_row r xs)
-    (λ t. climb_drop_row r xs c.1)
-    (λ t. (λ y m. c.0 y (mem_drop_row_to r y xs m).0, climb_drop_row r xs c.1))
-
-mem_push_to : {X : Type 0} (z x : X) (l : List X) → Mem z (l ++ x ∷ []) → Mem z l ⊎ (z ≡ x)
-mem_push_to z x [] m = ⊎_elim (λ e. inr e) (λ h. absurd h) m
-mem_push_to z x (y ∷ ys) m = ⊎_elim (λ e. inl (inl e)) (λ h. ⊎_elim (λ k. inl (inr k)) (λ e. inr e) (mem_push_to z x ys h)) m
-
-mem_push_from : {X : Type 0} (z x : X) (l : List X) → Mem z l ⊎ (z ≡ x) → Mem z (l ++ x ∷ [])
-mem_push_from z x [] m = ⊎_elim (λ h. absurd h) (λ e. inl e) m
-mem_push_from z x (y ∷ ys) m = ⊎_elim (⊎_elim (λ e. inl e) (λ h. inr (mem_push_from z x ys (inl h)))) (λ e. inr (mem_push_from z x ys (inr e))) m
-
-climb_push : {C : Type 0} (x : Entry C) (l : List (Entry C)) → Climb l → ((y : Entry C) → Mem y l → y.push < x.push) → Climb (l ++ x ∷ [])
-climb_push x [] c h = (λ y m. absurd m, tt)
-climb_push {C} x (y ∷ ys) c h = (
-  λ z m. ⊎_elim (λ k. c.0 z k) (λ (e : z ≡ x). let q : z.push ≡ x.push = ap (λ (v : Entry C). v.push) e in let l : y.push < x.push = h y (inl refl) in omega arith) (mem_push_to z x ys m),
-  climb_push x ys c.1 (λ z m. h z (inr m)),
-)
-
-low_push : {C : Type 0} (xs : List (Slot C)) (n c : ℕ) → Counted xs n c → (y : Entry C) → In xs n y → y.push < c
-low_push {C} xs n c co y (k, lk, h) =
-    let d : Slot C = record { entry = y; place = 0; order = 0 } in
-    let q : (at xs d k).push ≡ y.push = ap (λ (v : Entry C). v.push) (h d) in
-    omega (arith, co k d lk)
-
--- the queue after a push
-pub queue_added : {C : Type 0} (xs zs : List (Slot C)) (n m : ℕ) (e : Entry C) → n ≤ length xs → m ≤ length zs → Apart xs n → Apart zs m → Counted xs n e.push → Added xs n zs m e → queue zs m ≡ pushed (queue xs n) e.row e.estimate e.cost
+-- each entry waits
+pub length_queue : {C : Type 0} (es : List (Entry C)) → length (queue es) ≡ length es
 unfolding queue
-queue_added {C} xs zs n m e ln lm ax az co a =
-    let b : List (Entry C) = by_push (entries xs n) in
-    let bz : List (Entry C) = by_push (entries zs m) in
-    let k : List (Entry C) = drop_row e.row b in
-    let to : (z : Entry C) → Mem z bz → Mem z (k ++ e ∷ []) =
-    λ z h. mem_push_from z e k (⊎_elim (λ q. inr q) (λ i. inl (mem_drop_row_from e.row z b (mem_by_push_from z (entries xs n) (mem_from_in xs n z ln i.0)) i.1)) (a.0 z (in_from_mem zs m z (mem_by_push_to z (entries zs m) h)))) in
-    let from : (z : Entry C) → Mem z (k ++ e ∷ []) → Mem z bz =
-    λ z h. mem_by_push_from z (entries zs m) (mem_from_in zs m z lm (a.1 z (⊎_elim (λ j. let t = mem_drop_row_to e.row z b j in inr (in_from_mem xs n z (mem_by_push_to z (entries xs n) t.0), t.1)) (λ q. inl q) (mem_push_to z e k h)))) in
-    let low : (y : Entry C) → Mem y k → y.push < e.push =
-    λ y h. let i = in_from_mem xs n y (mem_by_push_to y (entries xs n) (mem_drop_row_to e.row y b h).0) in
-    low_push xs n e.push co y i in
-    let eq : bz ≡ k ++ e ∷ [] =
-    climb_unique bz (k ++ e ∷ []) (climb_by_push (entries zs m) (diff_from_apart zs m az)) (climb_push e k (climb_drop_row e.row b (climb_by_push (entries xs n) (diff_from_apart xs n ax))) low) to from in
-    ap (map waiting) eq ∙ map-append waiting k (e ∷ []) ∙ ap (λ l. l ++ waiting e ∷ []) (map_drop_row e.row b)
-
--- the queue after a pop
-pub queue_gone : {C : Type 0} (xs zs : List (Slot C)) (n m : ℕ) (e : Entry C) → n ≤ length xs → m ≤ length zs → Apart xs n → Apart zs m → Gone xs n zs m e → queue zs m ≡ without e.row (queue xs n)
-unfolding queue
-queue_gone {C} xs zs n m e ln lm ax az a =
-    let b : List (Entry C) = by_push (entries xs n) in
-    let bz : List (Entry C) = by_push (entries zs m) in
-    let k : List (Entry C) = drop_row e.row b in
-    let to : (z : Entry C) → Mem z bz → Mem z k =
-    λ z h. let i = a.0 z (in_from_mem zs m z (mem_by_push_to z (entries zs m) h)) in
-    mem_drop_row_from e.row z b (mem_by_push_from z (entries xs n) (mem_from_in xs n z ln i.0)) i.1 in
-    let from : (z : Entry C) → Mem z k → Mem z bz =
-    λ z h. let t = mem_drop_row_to e.row z b h in
-    mem_by_push_from z (entries zs m) (mem_from_in zs m z lm (a.1 z (in_from_mem xs n z (mem_by_push_to z (entries xs n) t.0)) t.1)) in
-    let eq : bz ≡ k =
-    climb_unique bz k (climb_by_push (entries zs m) (diff_from_apart zs m az)) (climb_drop_row e.row b (climb_by_push (entries xs n) (diff_from_apart xs n ax))) to from in
-    ap (map waiting) eq ∙ map_drop_row e.row b
+length_queue es = length-map (by_push es) waiting ∙ length_by_push es
 
 -- an entry ahead of the others is the first out
 overtakes_true : {C : Type 0} (w : C → ℕ) (e x : Entry C) → Ahead w e x → x.push < e.push → overtakes w (waiting e) (waiting x) ≡ true
@@ -173,191 +142,17 @@ first_is {C} w e (x ∷ xs) c m h =
     ∙ ap Some (cond-true (overtakes w (waiting e) (waiting x)) (waiting e) (waiting x) (overtakes_true w e x (h x (inl refl)) (c.0 e k))))
     m
 
-pub first_of_queue : {C : Type 0} (w : C → ℕ) (xs : List (Slot C)) (n : ℕ) (e : Entry C) → n ≤ length xs → Apart xs n → In xs n e → ((f : Entry C) → In xs n f → Ahead w e f) → first_out w (queue xs n) ≡ Some (waiting e)
+-- the entry at the top of a heap is the first out
+pub top_first : {C : Type 0} (w : C → ℕ) (es : List (Entry C)) (d : Entry C) → 0 < length es → Apart es → Heaped w es → first_out w (queue es) ≡ Some (waiting (nth es d 0))
 unfolding queue
-first_of_queue w xs n e ln ap' i h =
-    first_is w e (by_push (entries xs n)) (climb_by_push (entries xs n) (diff_from_apart xs n ap')) (mem_by_push_from e (entries xs n) (mem_from_in xs n e ln i)) (λ f m. h f (in_from_mem xs n f (mem_by_push_to f (entries xs n) m)))
-
-pub queue_none : {C : Type 0} (xs : List (Slot C)) → queue xs 0 ≡ []
-unfolding queue
-queue_none xs = refl
-
--- push numbers by members
-pub apart_from : {C : Type 0} (zs : List (Slot C)) (m : ℕ) → Placed zs m → ((e f : Entry C) → In zs m e → In zs m f → e.push ≡ f.push → e ≡ f) → m ≤ length zs → Apart zs m
-apart_from {C} zs m p h lm j k d lj lk q =
-    let ej = λ (d' : Slot C). ap (λ (s : Slot C). s.entry) (same_at zs j d' d (omega arith)) in
-    let ek = λ (d' : Slot C). ap (λ (s : Slot C). s.entry) (same_at zs k d' d (omega arith)) in
-    let e : at zs d j ≡ at zs d k = h (at zs d j) (at zs d k) (j, lj, ej) (k, lk, ek) q in
-    sym (p j d lj).1 ∙ ap (λ (v : Entry C). (get_or zs v.row d).place) e ∙ (p k d lk).1
+top_first {C} w es d l0 a o =
+    first_is w (nth es d 0) (by_push es) (climb_by_push es (diff_from_apart es a)) (mem_by_push_from (nth es d 0) es (mem_get es 0 d l0)) (λ f m. ahead f (mem_by_push_to f es m))
   where
-    same_at : {X : Type 0} (xs : List X) (i : ℕ) (d e : X) → i < length xs → get_or xs i d ≡ get_or xs i e
-    same_at xs i d e l = get_or_default xs i d e l
-
-pub in_at : {C : Type 0} (xs : List (Slot C)) (n k : ℕ) (d : Slot C) → k < n → n ≤ length xs → In xs n (at xs d k)
-in_at {C} xs n k d lk ln = (k, lk, λ d'. ap (λ (s : Slot C). s.entry) (get_or_default xs k d' d (omega arith)))
-
-pub members_apart : {C : Type 0} (xs : List (Slot C)) (n : ℕ) → Apart xs n → (e f : Entry C) → In xs n e → In xs n f → e.push ≡ f.push → e ≡ f
-members_apart {C} xs n a e f (j, lj, h) (k, lk, i) q =
-    let d : Slot C = record { entry = e; place = 0; order = 0 } in
-    let r : j ≡ k = a j k d lj lk (ap (λ (v : Entry C). v.push) (h d) ∙ q ∙ ap (λ (v : Entry C). v.push) (sym (i d))) in
-    sym (h d) ∙ ap (at xs d) r ∙ i d
-
-pub added_apart : {C : Type 0} (xs zs : List (Slot C)) (n m : ℕ) (e : Entry C) → m ≤ length zs → Placed zs m → Apart xs n → Counted xs n e.push → Added xs n zs m e → Apart zs m
-added_apart {C} xs zs n m e lm p a co ad =
-    apart_from zs m p
-    (λ f g i j q.
-    ⊎_elim
-    (λ (fe : f ≡ e).
-    ⊎_elim (λ (ge : g ≡ e). fe ∙ sym ge)
-    (λ gi. let l = low_push xs n e.push co g gi.0 in let r : f.push ≡ e.push = ap (λ (v : Entry C). v.push) fe in absurd (omega arith))
-    (ad.0 g j))
-    (λ fi.
-    ⊎_elim
-    (λ (ge : g ≡ e). let l = low_push xs n e.push co f fi.0 in let r : g.push ≡ e.push = ap (λ (v : Entry C). v.push) ge in absurd (omega arith))
-    (λ gi. members_apart xs n a f g fi.0 gi.0 q)
-    (ad.0 g j))
-    (ad.0 f i))
-    lm
-
-pub added_counted : {C : Type 0} (xs zs : List (Slot C)) (n m : ℕ) (e : Entry C) → m ≤ length zs → Counted xs n e.push → Added xs n zs m e → Counted zs m (e.push + 1)
-added_counted {C} xs zs n m e lm co ad k d lk =
-    ⊎_elim
-    (λ (q : at zs d k ≡ e). let r : (at zs d k).push ≡ e.push = ap (λ (v : Entry C). v.push) q in omega arith)
-    (λ i. let l = low_push xs n e.push co (at zs d k) i.0 in omega arith)
-    (ad.0 (at zs d k) (in_at zs m k d lk lm))
-
-pub gone_apart : {C : Type 0} (xs zs : List (Slot C)) (n m : ℕ) (e : Entry C) → m ≤ length zs → Placed zs m → Apart xs n → Gone xs n zs m e → Apart zs m
-gone_apart {C} xs zs n m e lm p a g = apart_from zs m p (λ f h i j q. members_apart xs n a f h (g.0 f i).0 (g.0 h j).0 q) lm
-
-pub gone_counted : {C : Type 0} (xs zs : List (Slot C)) (n m c : ℕ) (e : Entry C) → m ≤ length zs → Counted xs n c → Gone xs n zs m e → Counted zs m c
-gone_counted {C} xs zs n m c e lm co g k d lk = low_push xs n c co (at zs d k) (g.0 (at zs d k) (in_at zs m k d lk lm)).0
-
--- a write over the entry of its own row
-pub seat_over : {C : Type 0} (xs ys : List (Slot C)) (n i : ℕ) (e : Entry C) → i < n → n ≤ length xs → e.row < length xs → Placed xs n → ((d : Slot C) → (at xs d i).row ≡ e.row) → Seated xs ys i e → Placed ys n × Added xs n ys n e
-seat_over {C} xs ys n i e li ln lr p own s = (
-  λ k d lk.
-      ⊎_elim
-      (λ (q : k ≡ i).
-      let G : ℕ → Type 0 = λ m. ((at ys d m).row < length ys) × ((get_or ys (at ys d m).row d).place ≡ m) in
-      let H : Entry C → Type 0 = λ v. (v.row < length ys) × ((get_or ys v.row d).place ≡ i) in
-      subst G (sym q) (subst H (sym (s.here d)) (omega (arith, s.long), s.place d)))
-      (λ ni.
-      let H : Entry C → Type 0 = λ v. (v.row < length ys) × ((get_or ys v.row d).place ≡ k) in
-      subst H (sym (s.others k d ni)) (omega (arith, s.long, (p k d lk).0), s.places (at xs d k).row d (other k d lk ni) ∙ (p k d lk).1))
-      (cases_eq k i),
-  (
-    λ f h. member f h,
-    λ f h. ⊎_elim (λ (q : f ≡ e). (i, li, λ (d : Slot C). s.here d ∙ sym q)) (λ j. back f j.0 j.1) h,
-  ),
-)
-  where
-    other : (k : ℕ) (d : Slot C) → k < n → (k ≡ i → ⊥) → (at xs d k).row ≡ e.row → ⊥
-    other k d lk ni r = ni (sym (p k d lk).1 ∙ ap (λ m. (get_or xs m d).place) (r ∙ sym (own d)) ∙ (p i d li).1)
-
-    member : (f : Entry C) → In ys n f → (f ≡ e) ⊎ (In xs n f × (f.row ≡ e.row → ⊥))
-    member f (k, lk, h) =
-        ⊎_elim
-        (λ (q : k ≡ i). let d : Slot C = record { entry = f; place = 0; order = 0 } in inl (sym (h d) ∙ ap (at ys d) q ∙ s.here d))
-        (λ ni.
-        let d : Slot C = record { entry = f; place = 0; order = 0 } in
-        let g : (d : Slot C) → at xs d k ≡ f = λ d. sym (s.others k d ni) ∙ h d in
-        inr ((k, lk, g), λ r. other k d lk ni (ap (λ (v : Entry C). v.row) (g d) ∙ r)))
-        (cases_eq k i)
-
-    back : (f : Entry C) → In xs n f → (f.row ≡ e.row → ⊥) → In ys n f
-    back f (k, lk, h) nr =
-        let d : Slot C = record { entry = f; place = 0; order = 0 } in
-        let ni : k ≡ i → ⊥ = λ q. nr (ap (λ (v : Entry C). v.row) (sym (h d)) ∙ ap (λ m. (at xs d m).row) q ∙ own d) in
-        (k, lk, λ d. s.others k d ni ∙ h d)
-
--- a write after the last, of a row that has no entry
-pub seat_new : {C : Type 0} (xs ys : List (Slot C)) (n : ℕ) (e : Entry C) → n < length xs → e.row < length xs → Placed xs n → ((k : ℕ) (d : Slot C) → k < n → (at xs d k).row ≡ e.row → ⊥) → Seated xs ys n e → Placed ys (n + 1) × Added xs n ys (n + 1) e
-seat_new {C} xs ys n e ln lr p fresh s = (
-  λ k d lk.
-      ⊎_elim
-      (λ (q : k ≡ n).
-      let G : ℕ → Type 0 = λ m. ((at ys d m).row < length ys) × ((get_or ys (at ys d m).row d).place ≡ m) in
-      let H : Entry C → Type 0 = λ v. (v.row < length ys) × ((get_or ys v.row d).place ≡ n) in
-      subst G (sym q) (subst H (sym (s.here d)) (omega (arith, s.long), s.place d)))
-      (λ ni.
-      let lk' : k < n = omega arith in
-      let H : Entry C → Type 0 = λ v. (v.row < length ys) × ((get_or ys v.row d).place ≡ k) in
-      subst H (sym (s.others k d ni)) (omega (arith, s.long, (p k d lk').0), s.places (at xs d k).row d (fresh k d lk') ∙ (p k d lk').1))
-      (cases_eq k n),
-  (
-    λ f h. member f h,
-    λ f h. ⊎_elim (λ (q : f ≡ e). (n, omega arith, λ (d : Slot C). s.here d ∙ sym q)) (λ j. back f j.0) h,
-  ),
-)
-  where
-    member : (f : Entry C) → In ys (n + 1) f → (f ≡ e) ⊎ (In xs n f × (f.row ≡ e.row → ⊥))
-    member f (k, lk, h) =
-        ⊎_elim
-        (λ (q : k ≡ n). let d : Slot C = record { entry = f; place = 0; order = 0 } in inl (sym (h d) ∙ ap (at ys d) q ∙ s.here d))
-        (λ ni.
-        let d : Slot C = record { entry = f; place = 0; order = 0 } in
-        let g : (d : Slot C) → at xs d k ≡ f = λ d. sym (s.others k d ni) ∙ h d in
-        let lk' : k < n = omega arith in
-        inr ((k, lk', g), λ r. fresh k d lk' (ap (λ (v : Entry C). v.row) (g d) ∙ r)))
-        (cases_eq k n)
-
-    back : (f : Entry C) → In xs n f → In ys (n + 1) f
-    back f (k, lk, h) = (k, omega arith, λ d. s.others k d (λ q. omega arith) ∙ h d)
-
--- the last entry written over the first
-pub seat_top : {C : Type 0} (xs ys : List (Slot C)) (m : ℕ) (first last : Entry C) → 0 < m → m < length xs → Placed xs (m + 1) → ((d : Slot C) → first ≡ at xs d 0) → ((d : Slot C) → last ≡ at xs d m) → Seated xs ys 0 last → Placed ys m × Gone xs (m + 1) ys m first
-seat_top {C} xs ys m first last lm ln p hf hl s = (
-  λ k d lk.
-      ⊎_elim
-      (λ (q : k ≡ 0).
-      let G : ℕ → Type 0 = λ m. ((at ys d m).row < length ys) × ((get_or ys (at ys d m).row d).place ≡ m) in
-      let H : Entry C → Type 0 = λ v. (v.row < length ys) × ((get_or ys v.row d).place ≡ 0) in
-      let er : last.row ≡ (at xs d m).row = ap (λ (v : Entry C). v.row) (hl d) in
-      let lr : last.row < length ys = omega (arith, er, s.long, (p m d (omega arith)).0) in
-      subst G (sym q) (subst H (sym (s.here d)) (lr, s.place d)))
-      (λ ni.
-      let H : Entry C → Type 0 = λ v. (v.row < length ys) × ((get_or ys v.row d).place ≡ k) in
-      let lk' : k < m + 1 = omega arith in
-      subst H (sym (s.others k d ni)) (omega (arith, s.long, (p k d lk').0), s.places (at xs d k).row d (λ r. rows k m d lk' (omega arith) (λ q. omega arith) (r ∙ ap (λ (v : Entry C). v.row) (hl d))) ∙ (p k d lk').1))
-      (cases_eq k 0),
-  (λ f h. member f h, λ f h nr. back f h nr),
-)
-  where
-    rows : (j k : ℕ) (d : Slot C) → j < m + 1 → k < m + 1 → (j ≡ k → ⊥) → (at xs d j).row ≡ (at xs d k).row → ⊥
-    rows j k d lj lk ne r = ne (sym (p j d lj).1 ∙ ap (λ i. (get_or xs i d).place) r ∙ (p k d lk).1)
-
-    member : (f : Entry C) → In ys m f → In xs (m + 1) f × (f.row ≡ first.row → ⊥)
-    member f (k, lk, h) =
-        let d : Slot C = record { entry = f; place = 0; order = 0 } in
-        ⊎_elim
-        (λ (q : k ≡ 0).
-        let fl : f ≡ last = sym (h d) ∙ ap (at ys d) q ∙ s.here d in (
-          (m, omega arith, λ d. sym (hl d) ∙ sym fl),
-          λ r. rows m 0 d (omega arith) (omega arith) (λ q. omega arith) (ap (λ (v : Entry C). v.row) (sym (hl d) ∙ sym fl) ∙ r ∙ ap (λ (v : Entry C). v.row) (hf d)),
-        ))
-        (λ ni.
-        let g : (d : Slot C) → at xs d k ≡ f = λ d. sym (s.others k d ni) ∙ h d in
-        ((k, omega arith, g), λ r. rows k 0 d (omega arith) (omega arith) ni (ap (λ (v : Entry C). v.row) (g d) ∙ r ∙ ap (λ (v : Entry C). v.row) (hf d))))
-        (cases_eq k 0)
-
-    back : (f : Entry C) → In xs (m + 1) f → (f.row ≡ first.row → ⊥) → In ys m f
-    back f (k, lk, h) nr =
-        let d : Slot C = record { entry = f; place = 0; order = 0 } in
-        let nk : k ≡ 0 → ⊥ = λ q. nr (ap (λ (v : Entry C). v.row) (sym (h d) ∙ ap (at xs d) q ∙ sym (hf d))) in
-        ⊎_elim
-        (λ (q : k ≡ m). (0, lm, λ d. s.here d ∙ hl d ∙ ap (at xs d) (sym q) ∙ h d))
-        (λ nm. (k, omega arith, λ d. s.others k d nk ∙ h d))
-        (cases_eq k m)
-
-pub gone_one : {C : Type 0} (xs : List (Slot C)) (first : Entry C) → ((d : Slot C) → first ≡ at xs d 0) → Gone xs 1 xs 0 first
-gone_one {C} xs first hf =
-    (λ f h. absurd (omega (arith, h.1)), λ f h nr. absurd (none f h nr))
-  where
-    none : (f : Entry C) → In xs 1 f → (f.row ≡ first.row → ⊥) → ⊥
-    none f (k, lk, h) nr =
-        let d : Slot C = record { entry = f; place = 0; order = 0 } in
-        let q : k ≡ 0 = omega arith in
-        nr (ap (λ (v : Entry C). v.row) (sym (h d) ∙ ap (at xs d) q ∙ sym (hf d)))
+    ahead : (f : Entry C) → Mem f es → Ahead w (nth es d 0) f
+    ahead f m =
+        let c = contains_from_mem es f m in
+        let r : Ahead w (nth es f 0) (nth es f c.0) = order_top (Ahead w) (ahead_trans w) (nth es f) (nth es f) (length es) (ahead_refl w) (o f) c.0 c.0 (omega arith) c.1 in
+        subst (λ (v : Entry C). Ahead w v f) (get_or_default es 0 f d l0) (subst (λ (v : Entry C). Ahead w (nth es f 0) v) c.2 r)
 
 abbrev squeezed : (ℕ → ℕ) → ℕ → ℕ → ℕ → ℕ
 squeezed f m r k = cond (eqb (f k) m) r (f k)
@@ -398,34 +193,188 @@ room {C} xs n r d ln lr p fresh =
     (λ nq. omega arith)
     (cases_eq n (length xs))
 
--- the entry at the top of a heap is the first out
-pub top_first : {C : Type 0} (w : C → ℕ) (xs : List (Slot C)) (n : ℕ) (e : Entry C) → 0 < n → n ≤ length xs → Apart xs n → Heaped w xs n → ((d : Slot C) → e ≡ at xs d 0) → first_out w (queue xs n) ≡ Some (waiting e)
-top_first {C} w xs n e l0 ln a o h =
-    first_of_queue w xs n e ln a (0, l0, λ d. sym (h d)) (λ f i. ahead f i)
-  where
-    ahead : (f : Entry C) → In xs n f → Ahead w e f
-    ahead f (k, lk, j) =
-        let d : Slot C = record { entry = f; place = 0; order = 0 } in
-        let r : Ahead w (at xs d 0) (at xs d k) = order_top (Ahead w) (ahead_trans w) (at xs d) (at xs d) n (ahead_refl w) (o d) k k (omega arith) lk in
-        subst (λ (v : Entry C). Ahead w v f) (sym (h d)) (subst (λ (v : Entry C). Ahead w (at xs d 0) v) (j d) r)
+pub sound_none : {C : Type 0} (w : C → ℕ) (es : List (Entry C)) (c : ℕ) → es ≡ [] → Sound w es c
+unfolding IsDistinct
+sound_none w es c e =
+    subst (λ l. Sound w l c) (sym e) record { apart = tt; counted = λ k d l. absurd (omega arith); heaped = λ d p i a b l. absurd (omega arith) }
 
--- all that a pop has to show, from its members
-pub record Popped {C : Type 0} (w : C → ℕ) (xs zs : List (Slot C)) (n m : ℕ) (e : Entry C) : Type 0 where
-  pub apart : Apart zs m
-  pub counted : (c : ℕ) → Counted xs n c → Counted zs m c
-  pub queued : queue zs m ≡ without e.row (queue xs n)
+-- what stays beside an entry that is put
+pub record Beside {C : Type 0} (es rest : List (Entry C)) (e : Entry C) : Type 0 where
+  pub apart : Apart rest
+  pub counted : (y : Entry C) → Mem y rest → y.push < e.push
+  pub queued : queue rest ≡ without e.row (queue es)
 
-pub popped : {C : Type 0} (w : C → ℕ) (xs zs : List (Slot C)) (n m : ℕ) (e : Entry C) → n ≤ length xs → m ≤ length zs → Apart xs n → Placed zs m → Gone xs n zs m e → Popped w xs zs n m e
-popped w xs zs n m e ln lm a p g =
-    let az = gone_apart xs zs n m e lm p a g in
-    record { apart = az; counted = λ c co. gone_counted xs zs n m c e lm co g; queued = queue_gone xs zs n m e ln lm a az g }
+-- all that a push has to show but the order
+pub record Pushed {C : Type 0} (es zs : List (Entry C)) (e : Entry C) : Type 0 where
+  pub apart : Apart zs
+  pub counted : Counted zs (e.push + 1)
+  pub queued : queue zs ≡ pushed (queue es) e.row e.estimate e.cost
 
-pub seat_top_of : {C : Type 0} (xs ys : List (Slot C)) (n m : ℕ) (first last : Entry C) → m + 1 ≡ n → 0 < m → n ≤ length xs → Placed xs n → ((d : Slot C) → first ≡ at xs d 0) → ((d : Slot C) → last ≡ at xs d m) → Seated xs ys 0 last → Placed ys m × Gone xs n ys m first
-seat_top_of {C} xs ys n m first last e lm ln p hf hl s =
-    subst (λ k. Placed ys m × Gone xs k ys m first) e (seat_top xs ys m first last lm (omega arith) (subst (λ k. Placed xs k) (sym e) p) hf hl s)
+pub pushed_beside : {C : Type 0} (es rest zs : List (Entry C)) (e : Entry C) → Beside es rest e → IsPermutation zs (e ∷ rest) → Pushed es zs e
+pushed_beside {C} es rest zs e b p =
+    let both : Apart (e ∷ rest) = IsDistinct-cons (λ (a b : Entry C). eqb a.push b.push) e rest (all_mem (λ (y : Entry C). eqb e.push y.push ≡ false) rest (λ y m. let l = b.counted y m in ne_eqb e.push y.push (λ q. omega arith))) b.apart in
+    let az : Apart zs = differ_permuted (λ (v : Entry C). v.push) (e ∷ rest) zs (IsPermutation-sym zs (e ∷ rest) p) both in
+    record {
+      apart = az;
+      counted = λ k d lk.
+          ⊎_elim
+          (λ (q : get_or zs k d ≡ e). let r : (get_or zs k d).push ≡ e.push = ap (λ (v : Entry C). v.push) q in omega arith)
+          (λ m. let l = b.counted (get_or zs k d) m in omega arith)
+          (mem_permuted zs (e ∷ rest) (get_or zs k d) p (mem_get zs k d lk));
+      queued = queue_last zs rest e p az b.counted ∙ ap (λ l. l ++ waiting e ∷ []) b.queued;
+    }
 
-pub gone_one_of : {C : Type 0} (xs : List (Slot C)) (n m : ℕ) (first : Entry C) → m + 1 ≡ n → m ≤ 0 → ((d : Slot C) → first ≡ at xs d 0) → Placed xs m × Gone xs n xs m first
-gone_one_of {C} xs n m first e lm hf =
-    let z : m ≡ 0 = omega arith in
-    let o : n ≡ 1 = omega arith in
-    (λ k d lk. absurd (omega arith), subst (λ k. Gone xs k xs m first) (sym o) (subst (λ k. Gone xs 1 xs k first) (sym z) (gone_one xs first hf)))
+-- what the write of an entry leaves: the first m of the slots ys, with the entry at place r
+pub record Put {C : Type 0} (w : C → ℕ) (es : List (Entry C)) (ys : List (Slot C)) (m r : ℕ) (e : Entry C) : Type 0 where
+  pub inside : r < m
+  pub fits : m ≤ length ys
+  pub placed : Placed ys m
+  pub loose : HeapedBut w (entries ys m) r
+  pub rest : List (Entry C)
+  pub beside : Beside es rest e
+  pub mixed : IsPermutation (entries ys m) (e ∷ rest)
+
+module _ {C : Type 0} (w : C → ℕ) (xs ys : List (Slot C)) (n : ℕ) (e : Entry C) (ln : n ≤ length xs) (lr : e.row < length xs) (p : Placed xs n) (o : Sound w (entries xs n) e.push) where
+  long : length (entries xs n) ≡ n
+  long = length_entries xs n ln
+
+  low : (y : Entry C) → Mem y (entries xs n) → y.push < e.push
+  low y m = All-contains (λ (v : Entry C). v.push < e.push) (entries xs n) y o.counted (contains_from_mem (entries xs n) y m)
+
+  -- over the older entry of its row
+  put_over : (r : ℕ) → r < n → ((d : Entry C) → (nth (entries xs n) d r).row ≡ e.row) → Seated xs ys r e → Put w (entries xs n) ys n r e
+  put_over r lt own s =
+      let old : Entry C = nth (entries xs n) e r in
+      let rest : List (Entry C) = remove (entries xs n) r in
+      let l : r < length (entries xs n) = omega (arith, long) in
+      let q : IsPermutation (entries xs n) (old ∷ rest) = IsPermutation-remove (entries xs n) r old l (get_or_default (entries xs n) r e old l) in
+      let is : entries ys n ≡ set (entries xs n) r e = entries_over xs ys e n r ln lt s in
+      record {
+        inside = lt;
+        fits = omega (arith, s.long);
+        placed = over_placed xs ys n r e lt lr p (λ d. ap (λ (v : Entry C). v.row) (sym (entries_at xs n r d e ln lt)) ∙ own e) s;
+        loose = subst (λ l. HeapedBut w l r) (sym is) (λ d.
+            subst (λ m. Loose (Ahead w) (nth (set (entries xs n) r e) d) m r) (sym (length-set (entries xs n) r e))
+            (loose_kept (Ahead w) (ahead_trans w) (nth (entries xs n) d) (nth (set (entries xs n) r e) d) (length (entries xs n)) r (λ m lm nm. get_or-set_other (entries xs n) r m e d nm)
+            (loose_in (Ahead w) (ahead_trans w) (nth (entries xs n) d) (nth (entries xs n) d) (length (entries xs n)) r l (o.heaped d))));
+        rest = rest;
+        beside = record {
+          apart = IsDistinct-tail (λ (a b : Entry C). eqb a.push b.push) old rest (differ_permuted (λ (v : Entry C). v.push) (entries xs n) (old ∷ rest) q o.apart);
+          counted = λ y m. low y (mem_permuted (old ∷ rest) (entries xs n) y (IsPermutation-sym (entries xs n) (old ∷ rest) q) (inr m));
+          queued = sym (queue_rest (entries xs n) rest old q o.apart (rows_differ xs n ln p)) ∙ ap (λ v. without v (queue (entries xs n))) (own e);
+        };
+        mixed = subst (λ l. IsPermutation l (e ∷ rest)) (sym is)
+            (subst (λ l. IsPermutation (set (entries xs n) r e) (e ∷ l)) (ap (λ l. l ++ drop (suc r) (set (entries xs n) r e)) (take-set (entries xs n) r e) ∙ ap (λ l. take r (entries xs n) ++ l) (drop-set-lt (suc r) (entries xs n) r e (omega arith)))
+            (IsPermutation-remove (set (entries xs n) r e) r e (omega (arith, length-set (entries xs n) r e)) (sym (get_or-set_same (entries xs n) r e e l))));
+      }
+
+  -- after the last
+  put_next : ((k : ℕ) (d : Entry C) → k < length (entries xs n) → (nth (entries xs n) d k).row ≡ e.row → ⊥) → n < length xs → Seated xs ys n e → Put w (entries xs n) ys (n + 1) n e
+  put_next fresh lt s =
+      let is : entries ys (n + 1) ≡ entries xs n ++ e ∷ [] = entries_next xs ys e n lt s in
+      record {
+        inside = omega arith;
+        fits = omega (arith, s.long);
+        placed = next_placed xs ys n e lr p (λ k d lk q. fresh k e (omega (arith, long)) (ap (λ (v : Entry C). v.row) (entries_at xs n k d e ln lk) ∙ q)) s;
+        loose = subst (λ l. HeapedBut w l n) (sym is) (λ d.
+            subst (λ m. Loose (Ahead w) (nth (entries xs n ++ e ∷ []) d) m n) (let z : n + 1 ≡ length (entries xs n ++ e ∷ []) = omega (arith, long, length-append (entries xs n) (e ∷ [])) in z)
+            (loose_kept (Ahead w) (ahead_trans w) (nth (entries xs n) d) (nth (entries xs n ++ e ∷ []) d) (n + 1) n (λ m lm nm. get_or_append_left (entries xs n) (e ∷ []) d m (omega (arith, long)))
+            (loose_new (Ahead w) (ahead_trans w) (nth (entries xs n) d) (nth (entries xs n) d) n (subst (λ m. (p i : ℕ) → 2 * p < i → i ≤ 2 * p + 2 → i < m → Ahead w (nth (entries xs n) d p) (nth (entries xs n) d i)) long (o.heaped d)))));
+        rest = entries xs n;
+        beside = record {
+          apart = o.apart;
+          counted = low;
+          queued = sym (queue_without e.row (entries xs n) (λ y m q. let c = contains_from_mem (entries xs n) y m in fresh c.0 y c.1 (ap (λ (v : Entry C). v.row) c.2 ∙ q)));
+        };
+        mixed = subst (λ l. IsPermutation l (e ∷ entries xs n)) (sym is) (IsPermutation-to_front (entries xs n) e);
+      }
+
+  -- the place of the row's older entry, or the first that is free
+  abbrev pub Chosen : ℕ → Type 0
+  Chosen r = ((r ≡ n) × ((k : ℕ) (d : Entry C) → k < length (entries xs n) → (nth (entries xs n) d k).row ≡ e.row → ⊥)) ⊎ ((r < length (entries xs n)) × ((d : Entry C) → (nth (entries xs n) d r).row ≡ e.row))
+
+  pub place_in : (r : ℕ) → Chosen r → r < length xs
+  place_in r c =
+      ⊎_elim
+      (λ f. let l = room xs n e.row (record { entry = e; place = 0; order = 0 }) ln lr p (λ k d lk q. f.1 k e (omega (arith, long)) (ap (λ (v : Entry C). v.row) (entries_at xs n k d e ln lk) ∙ q)) in omega (arith, f.0, l))
+      (λ f. omega (arith, f.0, long))
+      c
+
+  pub put_at : (r m : ℕ) → Chosen r → m ≡ max n (r + 1) → Seated xs ys r e → Put w (entries xs n) ys m r e
+  put_at r m c q s =
+      ⊎_elim
+      (λ f.
+      let l : n < length xs = subst (λ k. k < length xs) f.0 (place_in r c) in
+      let z : m ≡ n + 1 = omega (arith, f.0) in
+      subst (λ k. Put w (entries xs n) ys m k e) (sym f.0) (subst (λ k. Put w (entries xs n) ys k n e) (sym z) (put_next f.1 l (subst (λ k. Seated xs ys k e) f.0 s))))
+      (λ f.
+      let l : r < n = omega (arith, f.0, long) in
+      let z : m ≡ n = omega arith in
+      subst (λ k. Put w (entries xs n) ys k r e) (sym z) (put_over r l f.1 s))
+      c
+
+-- what stands for the place of an entry, or for none
+pub chosen_by : (A : Type 0) (B : ℕ → Type 0) (o : Option ℕ) (r n : ℕ) → MatchOption o A B → r ≡ unwrap_or o n → ((r ≡ n) × A) ⊎ B r
+chosen_by A B None r n m q = inl (q, m)
+chosen_by A B (Some p) r n m q = inr (subst B (sym q) m)
+
+-- all that a pop has to show but the order
+pub record Popped {C : Type 0} (es zs : List (Entry C)) (first : Entry C) : Type 0 where
+  pub apart : Apart zs
+  pub counted : (c : ℕ) → Counted es c → Counted zs c
+  pub queued : queue zs ≡ without first.row (queue es)
+  pub size : length zs + 1 ≡ length es
+
+pub popped : {C : Type 0} (es rest zs : List (Entry C)) (first : Entry C) → Apart es → IsDistinct (λ a b. eqb a.row b.row) es → IsPermutation es (first ∷ rest) → IsPermutation rest zs → Popped es zs first
+popped {C} es rest zs first a r p q =
+    let ar : Apart rest = IsDistinct-tail (λ (a b : Entry C). eqb a.push b.push) first rest (differ_permuted (λ (v : Entry C). v.push) es (first ∷ rest) p a) in
+    record {
+      apart = differ_permuted (λ (v : Entry C). v.push) rest zs q ar;
+      counted = λ c co k d lk.
+          let m = mem_permuted zs rest (get_or zs k d) (IsPermutation-sym rest zs q) (mem_get zs k d lk) in
+          All-contains (λ (v : Entry C). v.push < c) es (get_or zs k d) co (contains_from_mem es (get_or zs k d) (mem_permuted (first ∷ rest) es (get_or zs k d) (IsPermutation-sym es (first ∷ rest) p) (inr m)));
+      queued = sym (queue_permuted rest zs q ar) ∙ sym (queue_rest es rest first p a r);
+      size = let z = length_permutation es (first ∷ rest) p in let y = length_permutation rest zs q in omega arith;
+    }
+
+-- the entries once the first goes and the last takes its place
+abbrev pub rest_of : {C : Type 0} → List (Slot C) → ℕ → Slot C → List (Entry C)
+rest_of xs n d₀ = swap_remove (entries xs n) 0 (at xs d₀ 0)
+
+module _ {C : Type 0} (w : C → ℕ) (xs : List (Slot C)) (n m : ℕ) (d₀ : Slot C) (mn : m + 1 ≡ n) (ln : n ≤ length xs) (p : Placed xs n) where
+  long_all : length (entries xs n) ≡ n
+  long_all = length_entries xs n ln
+
+  pub rest_is : IsPermutation (entries xs n) (at xs d₀ 0 ∷ (rest_of xs n d₀))
+  rest_is = IsPermutation-swap_remove (entries xs n) 0 (at xs d₀ 0) (omega (arith, long_all)) (sym (entries_at xs n 0 d₀ (at xs d₀ 0) ln (omega arith)))
+
+  pub rest_top : (ys : List (Slot C)) (d₁ : Slot C) → Seated xs ys 0 (at xs d₁ m) → entries ys m ≡ rest_of xs n d₀
+  rest_top ys d₁ s =
+      let k : length (entries xs n) - 1 ≡ m = omega (arith, long_all) in
+      entries_less ys m n (omega arith)
+      ∙ ap (take m) (entries_over xs ys (at xs d₁ m) n 0 ln (omega arith) s)
+      ∙ ap (λ x. take m (set (entries xs n) 0 x)) (sym (entries_at xs n m d₁ (at xs d₀ 0) ln (omega arith)))
+      ∙ ap (λ i. take i (set (entries xs n) 0 (get_or (entries xs n) i (at xs d₀ 0)))) (sym k)
+
+  pub rest_none : m ≤ 0 → entries xs m ≡ rest_of xs n d₀
+  rest_none lm =
+      let z : m ≡ 0 = omega arith in
+      let k : length (entries xs n) - 1 ≡ 0 = omega (arith, long_all) in
+      ap (entries xs) z ∙ ap (λ i. take i (set (entries xs n) 0 (get_or (entries xs n) (length (entries xs n) - 1) (at xs d₀ 0)))) (sym k)
+
+  pub rest_loose : Heaped w (entries xs n) → HeapedBut w (rest_of xs n d₀) 0
+  rest_loose h d =
+      let es : List (Entry C) = entries xs n in
+      let x : Entry C = get_or es (length es - 1) (at xs d₀ 0) in
+      let k : ℕ = length es - 1 in
+      let lk : length (rest_of xs n d₀) ≡ k = length-take-le k (set es 0 x) (omega (arith, length-set es 0 x)) in
+      subst (λ i. Loose (Ahead w) (nth (rest_of xs n d₀) d) i 0) (sym lk)
+      (loose_kept (Ahead w) (ahead_trans w) (nth es d) (nth (rest_of xs n d₀) d) k 0 (λ i li ni. get_or-take k (set es 0 x) i d li ∙ get_or-set_other es 0 i x d ni)
+      (loose_top (Ahead w) (ahead_trans w) (nth es d) (nth es d) (length es) k (omega arith) (h d)))
+
+  pub rest_popped : (zs : List (Entry C)) → Apart (entries xs n) → IsPermutation (rest_of xs n d₀) zs → Popped (entries xs n) zs (at xs d₀ 0)
+  rest_popped zs a q = popped (entries xs n) (rest_of xs n d₀) zs (at xs d₀ 0) a (rows_differ xs n ln p) rest_is q
+
+  pub rest_first : Apart (entries xs n) → Heaped w (entries xs n) → Some (waiting (at xs d₀ 0)) ≡ first_out w (queue (entries xs n))
+  rest_first a h =
+      ap (λ (e : Entry C). Some (waiting e)) (sym (entries_at xs n 0 d₀ (at xs d₀ 0) ln (omega arith))) ∙ sym (top_first w (entries xs n) (at xs d₀ 0) (omega (arith, long_all)) a h)

@@ -1,7 +1,6 @@
 -- What waits in a heap, as a list in the order of the pushes.
-use Rattle.std.specs.Prelude.{ℕ, Bool, true, false, cond, List, [], ◌∷◌, ◌++◌, map, take, Some, None, Option, ◌==◌, nat_lt}
+use Rattle.std.specs.Prelude.{ℕ, Bool, true, false, cond, List, [], ◌∷◌, ◌++◌, map, Some, None, Option, ◌==◌, nat_lt}
 use Rattle.store.specs.declared.slots.Entry.{Entry}
-use Rattle.store.specs.declared.slots.Slot.{Slot}
 
 -- a row waiting in the heap, with its estimate and its cost
 abbrev pub Waiting : Type 0 → Type 0
@@ -19,15 +18,9 @@ abbrev pub by_push : {C : Type 0} → List (Entry C) → List (Entry C)
 by_push [] = []
 by_push (x ∷ xs) = among x (by_push xs)
 
-abbrev pub entry_of : {C : Type 0} → Slot C → Entry C
-entry_of s = s.entry
-
-abbrev pub entries : {C : Type 0} → List (Slot C) → ℕ → List (Entry C)
-entries xs n = map entry_of (take n xs)
-
--- what waits in the first n slots, in the order of the pushes
-unfoldable pub queue : {C : Type 0} → List (Slot C) → ℕ → List (Waiting C)
-queue xs n = map waiting (by_push (entries xs n))
+-- what waits, in the order of the pushes
+unfoldable pub queue : {C : Type 0} → List (Entry C) → List (Waiting C)
+queue es = map waiting (by_push es)
 
 -- the queue with nothing for row r
 abbrev pub without : {C : Type 0} → ℕ → List (Waiting C) → List (Waiting C)

@@ -1,12 +1,93 @@
-// A binary heap with at most one entry for a row.
-use crate::slots::Slot;
+// A binary heap with at most one entry for a row: a list of what waits, in the order of the pushes.
+ghost use Rattle.std.specs.Prelude.{◌≡◌, ◌+◌, ◌<◌, ◌≤◌, [], length, Some, MatchOption};
+ghost use Rattle.store.specs.Queue.{pushed, first_out, left};
 
-mod ops;
+use crate::places::Places;
+use crate::slots::{Entry, Slot};
+use kinds::CostKind;
+use std::marker::Model;
 
-// A heap over lent slots: the first `len` have the entries, and the slot of a row has the place of its entry.
+// A heap over lent slots; `count` is the number of the next push.
 #[derive(Drop)]
-pub struct Heap<'a, C> {
-    slots: &'a mut [Slot<C>],
-    len: usize,
+pub struct Heap<'a, C: CostKind> {
+    places: Places<'a, C>,
     count: u64,
+}
+
+impl<'a, C: CostKind> Model for Heap<'a, C> {
+    ghost use Rattle.store.specs.Slots.{Sound};
+    ghost use Rattle.store.specs.Queue.{queue};
+    ghost use Rattle.store.specs.Heaps.{Waits};
+
+    ghost Value = { Waits C };
+
+    ghost view = { λ h. record { waits = queue h.places.entries; rows = h.places.rows; next = h.count } };
+
+    ghost invariant = { λ h. Sound C.weight h.places.entries h.count };
+}
+
+impl<'a, C: CostKind> Heap<'a, C> {
+    // A heap with no entry.
+    pub fn new(slots: &'a mut [Slot<C>]) -> Heap<'a, C>
+        requires { length slots.old ≤ 65536 }
+        ensures empty { result.waits ≡ [] }
+        ensures rows { result.rows ≡ length slots.old }
+    {
+        Heap::counting_from(slots, 0)
+    }
+
+    // A heap with no entry whose next push has this number; it differs from a new one in nothing but when push numbers
+    // are dealt anew, which a test can so bring about.
+    #[tactic(auto, using(crate::proofs::Turns::queue_none))]
+    pub fn counting_from(slots: &'a mut [Slot<C>], count: u64) -> Heap<'a, C>
+        requires { length slots.old ≤ 65536 }
+        ensures empty { result.waits ≡ [] }
+        ensures rows { result.rows ≡ length slots.old }
+        ensures next { result.next ≡ count }
+    {
+        Heap {
+            places: Places::new(slots),
+            count,
+        }
+    }
+
+    // Takes every entry out, in constant time.
+    #[tactic(auto, using(crate::proofs::Turns::queue_none))]
+    pub fn clear(&mut self)
+        ensures empty { self.new.waits ≡ [] }
+        ensures rows { self.new.rows ≡ self.old.rows }
+    {
+        self.places.clear();
+        self.count = 0;
+    }
+
+    // Pushes an entry for a row, in place of the row's older one.
+    pub fn push(&mut self, row: u16, estimate: C, cost: C)
+        requires { row < self.old.rows }
+        ensures waits { self.new.waits ≡ pushed self.old.waits row estimate cost }
+        ensures rows { self.new.rows ≡ self.old.rows }
+    {
+        if self.count == u64::MAX {
+            self.count = self.places.deal();
+        }
+        self.places.put(Entry {
+            row,
+            estimate,
+            cost,
+            push: self.count,
+        });
+        self.count += 1;
+    }
+
+    // Takes out the entry that comes first: its row, estimate and cost.
+    #[tactic(auto, using(crate::proofs::Turns::length_queue))]
+    pub fn pop(&mut self) -> Option<(u16, C, C)>
+        ensures size { MatchOption result (length self.new.waits ≡ 0) (λ _. length self.new.waits + 1 ≡ length self.old.waits) }
+        ensures first { result ≡ first_out C.weight self.old.waits }
+        ensures waits { self.new.waits ≡ left result self.old.waits }
+        ensures rows { self.new.rows ≡ self.old.rows }
+    {
+        let first = self.places.take_first()?;
+        Some((first.row, first.estimate, first.cost))
+    }
 }

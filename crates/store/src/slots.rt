@@ -1,4 +1,9 @@
 // What a heap keeps in each slot.
+ghost use Rattle.std.specs.Prelude.{◌≡◌, MatchBool};
+ghost use Rattle.store.specs.Slots.{Ahead};
+
+use kinds::CostKind;
+
 // A row that waits, with its estimate, its cost, and the number of its push.
 #[derive(Clone, Copy)]
 pub struct Entry<C> {
@@ -8,10 +13,46 @@ pub struct Entry<C> {
     pub push: u64,
 }
 
+impl<C: CostKind> Entry<C> {
+    // Whether it comes out before another; either answer is right where the two differ in nothing that counts.
+    pub(crate) fn comes_before(&self, other: &Entry<C>) -> bool
+        ensures { MatchBool result (Ahead C.weight self.now other.now) (Ahead C.weight other.now self.now) }
+    {
+        self.estimate
+            .cmp(&other.estimate)
+            .then_with(|| other.cost.cmp(&self.cost))
+            .then_with(|| self.push.cmp(&other.push))
+            .is_le()
+    }
+}
+
 // An entry; the place of the entry of the row that has this slot's number; and room for a number while pushes are dealt anew.
 #[derive(Clone, Copy)]
 pub struct Slot<C> {
     pub entry: Entry<C>,
     pub place: u16,
     pub order: u32,
+}
+
+impl<C: CostKind> Slot<C> {
+    // A slot that nothing was put in.
+    pub fn new() -> Slot<C>
+        ensures row { result.entry.row ≡ 0 }
+        ensures estimate { C.weight result.entry.estimate ≡ 0 }
+        ensures cost { C.weight result.entry.cost ≡ 0 }
+        ensures push { result.entry.push ≡ 0 }
+        ensures place { result.place ≡ 0 }
+        ensures order { result.order ≡ 0 }
+    {
+        Slot {
+            entry: Entry {
+                row: 0,
+                estimate: C::zero(),
+                cost: C::zero(),
+                push: 0,
+            },
+            place: 0,
+            order: 0,
+        }
+    }
 }

@@ -1,12 +1,12 @@
 // Small charts drawn in the source.
+use kinds::Trims;
 use std::alloc::{AllocError, Global};
 
 #[derive(Clone, Copy)]
 pub struct Road {
     pub from: u32,
     pub to: u32,
-    pub trims: u32,
-    pub millis: u32,
+    pub cost: Trims,
 }
 
 // A road that costs no trim.
@@ -14,70 +14,89 @@ pub fn plain_road(from: u32, to: u32, millis: u32) -> Road {
     Road {
         from,
         to,
-        trims: 0,
-        millis,
+        cost: Trims { trims: 0, millis },
     }
 }
 
-// Stations from 0 on; their roads, ordered by where they begin; one goal; and a guess in milliseconds at one station.
+// A guess in milliseconds at one station.
+#[derive(Clone, Copy)]
+struct Guess {
+    station: u32,
+    millis: u32,
+}
+
+// Stations from 0 on; their roads, ordered by where they begin; one goal; and one guess at most.
 #[derive(Clone, Copy)]
 pub struct Drawing<'a> {
-    pub stations: u32,
-    pub roads: &'a [Road],
-    pub goal: u32,
-    pub guessed: u32,
-    pub guess: u32,
+    stations: u32,
+    roads: &'a [Road],
+    goal: u32,
+    guess: Option<Guess>,
 }
 
 fn put(bytes: &mut Vec<u8>, word: u32) -> Result<(), AllocError> {
-    for byte in word.to_le_bytes() {
-        bytes.push(byte)?;
-    }
-    Ok(())
+    bytes.extend_from_slice(&word.to_le_bytes())
 }
 
-// How many roads begin before a station.
-fn first_road(roads: &[Road], station: u32) -> u32 {
-    let mut count = 0u32;
-    for road in roads {
-        if road.from < station {
-            count = count.saturating_add(1);
+fn put_count(bytes: &mut Vec<u8>, count: usize) -> Result<(), AllocError> {
+    put(bytes, u32::try_from(count).unwrap_or(u32::MAX))
+}
+
+impl<'a> Drawing<'a> {
+    // With no guess.
+    pub fn new(stations: u32, roads: &'a [Road], goal: u32) -> Drawing<'a> {
+        Drawing {
+            stations,
+            roads,
+            goal,
+            guess: None,
         }
     }
-    count
-}
 
-fn put_station(bytes: &mut Vec<u8>, drawing: &Drawing, station: u32) -> Result<(), AllocError> {
-    put(bytes, first_road(drawing.roads, station))?;
-    put(bytes, 0)?;
-    put(
-        bytes,
-        if station == drawing.guessed {
-            drawing.guess
-        } else {
-            0
-        },
-    )?;
-    put(bytes, if station == drawing.goal { 256 } else { 0 })
-}
+    pub fn with_guess(self, station: u32, millis: u32) -> Drawing<'a> {
+        Drawing {
+            guess: Some(Guess { station, millis }),
+            ..self
+        }
+    }
 
-// The chart's bytes.
-pub fn drawn(heap: Global, drawing: &Drawing) -> Result<Vec<u8>, AllocError> {
-    let mut bytes = Vec::new(heap);
-    put(&mut bytes, drawing.stations)?;
-    put(&mut bytes, first_road(drawing.roads, u32::MAX))?;
-    put(&mut bytes, 16)?;
-    put(
-        &mut bytes,
-        drawing.stations.saturating_mul(16).saturating_add(16),
-    )?;
-    for station in 0..drawing.stations {
-        put_station(&mut bytes, drawing, station)?;
+    // How many roads begin before a station.
+    fn first_road(&self, station: u32) -> usize {
+        self.roads.iter().filter(|road| road.from < station).count()
     }
-    for road in drawing.roads {
-        put(&mut bytes, road.to)?;
-        put(&mut bytes, road.trims)?;
-        put(&mut bytes, road.millis)?;
+
+    fn guess_at(&self, station: u32) -> u32 {
+        match self.guess {
+            Some(guess) if guess.station == station => guess.millis,
+            _ => 0,
+        }
     }
-    Ok(bytes)
+
+    fn put_station(&self, bytes: &mut Vec<u8>, station: u32) -> Result<(), AllocError> {
+        put_count(bytes, self.first_road(station))?;
+        put(bytes, 0)?;
+        put(bytes, self.guess_at(station))?;
+        put(bytes, if station == self.goal { 256 } else { 0 })
+    }
+
+    // The chart's bytes.
+    pub fn bytes(&self, heap: Global) -> Result<Vec<u8>, AllocError> {
+        let mut bytes = Vec::new(heap);
+        put(&mut bytes, self.stations)?;
+        put_count(&mut bytes, self.roads.len())?;
+        put(&mut bytes, 16)?;
+        put(
+            &mut bytes,
+            self.stations.saturating_mul(16).saturating_add(16),
+        )?;
+        for station in 0..self.stations {
+            self.put_station(&mut bytes, station)?;
+        }
+        for road in self.roads {
+            put(&mut bytes, road.to)?;
+            put(&mut bytes, road.cost.trims)?;
+            put(&mut bytes, road.cost.millis)?;
+        }
+        Ok(bytes)
+    }
 }

@@ -6,6 +6,7 @@ mod drawing;
 mod layers;
 mod searches;
 mod soak;
+mod steps;
 
 fn run(rt: &HostRuntime) -> anyhow::Result<()> {
     containers::containers(rt)?;

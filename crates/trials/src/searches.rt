@@ -1,246 +1,170 @@
 // Searches over small charts, with the values of what is refused.
-use crate::drawing::{Drawing, Road, drawn, plain_road};
+use crate::drawing::{Drawing, Road, plain_road};
+use crate::steps::{Answer, chart_in, desk_over};
 use chart::Chart;
 use kinds::{Station, Trims};
 use planner::Planner;
-use report::memory;
-use search::SeekRefusal;
+use report::lines::Route;
+use report::memory::Desk;
+use report::{Memory, Method};
 use std::io;
 
-type Answer = Result<Option<Trims>, SeekRefusal>;
-
 fn print_hand_out(
-    rt: &HostRuntime,
+    rt: &impl Print,
     planner: &mut Planner<Station, Trims>,
     out: &mut [Station],
 ) -> io::Result<()> {
     match planner.hand_out(out) {
         Err(refusal) => {
-            let number = refusal.number();
+            let number = u8::from(refusal);
             println!(rt; "  hand-out refused {number}: {refusal:?}")
         }
         Ok(None) => println!(rt; "  finished"),
         Ok(Some(length)) => {
-            print!(rt; "  route")?;
-            for station in out.iter().take(length) {
-                let id = station.id;
-                print!(rt; " {id}")?;
-            }
-            println!(rt; "")
+            let route = Route {
+                nodes: &out[0..length],
+            };
+            println!(rt; "  route{route}")
         }
     }
 }
 
-fn print_answer(rt: &HostRuntime, name: &str, answer: Answer) -> io::Result<()> {
-    match answer {
-        Err(refusal) => {
-            let number = refusal.number();
-            println!(rt; " {name} refused {number}: {refusal:?}")
-        }
-        Ok(found) => match found {
-            None => println!(rt; " {name} none"),
-            Some(cost) => {
-                let trims = cost.trims;
-                let millis = cost.millis;
-                println!(rt; " {name} {trims} {millis}")
-            }
-        },
-    }
-}
-
-fn run_both(
-    rt: &HostRuntime,
-    planner: &mut Planner<Station, Trims>,
+// Seeks by each search, and hands out until nothing is left; after astar first where there is no room.
+fn seek(
+    rt: &impl Print,
+    desk: &mut Desk<Station, Trims>,
     chart: &Chart,
     start: Station,
-    out: &mut [Station],
 ) -> io::Result<()> {
-    let answer = planner.dijkstra(chart, start);
-    print_answer(rt, "dijkstra", answer)?;
-    print_hand_out(rt, planner, out)?;
-    print_hand_out(rt, planner, out)?;
-    let answer = planner.astar(chart, start);
-    print_answer(rt, "astar", answer)?;
-    print_hand_out(rt, planner, &mut out[0..0])?;
-    print_hand_out(rt, planner, out)?;
-    print_hand_out(rt, planner, out)
-}
-
-fn over(rt: &HostRuntime, bytes: &[u8], rows: usize, start: u32) -> anyhow::Result<()> {
-    if let Err(refusal) = chart::check(bytes) {
-        let number = refusal.number();
-        println!(rt; " chart refused {number}")?;
-        return Ok(());
+    for method in Method::ALL {
+        let found = method.seek(&mut desk.planner, chart, start);
+        let answer = Answer { found };
+        println!(rt; " {method} {answer}")?;
+        if method == Method::Astar {
+            print_hand_out(rt, &mut desk.planner, &mut [])?;
+        }
+        print_hand_out(rt, &mut desk.planner, desk.out)?;
+        print_hand_out(rt, &mut desk.planner, desk.out)?;
     }
-    let chart = Chart::make(bytes);
-    let mut slots = memory::slots(rt.alloc(), rows)?;
-    let mut nodes = memory::nodes(rt.alloc(), rows)?;
-    let mut rows = memory::rows(rt.alloc(), rows)?;
-    let mut links = memory::links(rt.alloc(), 0)?;
-    if planner::check(rows.len(), slots.len(), links.len()).is_err() {
-        println!(rt; " planner refused")?;
-        return Ok(());
-    }
-    let mut planner = Planner::make(
-        rows.as_mut_slice(),
-        slots.as_mut_slice(),
-        links.as_mut_slice(),
-    );
-    run_both(
-        rt,
-        &mut planner,
-        &chart,
-        Station { id: start },
-        nodes.as_mut_slice(),
-    )?;
     Ok(())
 }
 
-fn show(
-    rt: &HostRuntime,
-    title: &str,
+// A drawing to seek in, from a station, by a planner of so many rows.
+#[derive(Clone, Copy)]
+struct Trial<'a> {
+    title: &'a str,
+    drawing: Drawing<'a>,
     rows: usize,
     start: u32,
-    drawing: &Drawing,
-) -> anyhow::Result<()> {
-    println!(rt; "{title}")?;
-    let bytes = drawn(rt.alloc(), drawing)?;
-    over(rt, bytes.as_slice(), rows, start)
 }
 
-fn plain(roads: &[Road], stations: u32, goal: u32) -> Drawing {
-    Drawing {
-        stations,
-        roads,
-        goal,
-        guessed: 0,
-        guess: 0,
+impl<'a> Trial<'a> {
+    // From station 0, with rows enough.
+    fn new(title: &'a str, drawing: Drawing<'a>) -> Trial<'a> {
+        Trial {
+            title,
+            drawing,
+            rows: 16,
+            start: 0,
+        }
+    }
+
+    fn with_rows(self, rows: usize) -> Trial<'a> {
+        Trial { rows, ..self }
+    }
+
+    fn starting_at(self, start: u32) -> Trial<'a> {
+        Trial { start, ..self }
+    }
+
+    fn show(&self, rt: &HostRuntime) -> anyhow::Result<()> {
+        let title = self.title;
+        println!(rt; "{title}")?;
+        let bytes = self.drawing.bytes(rt.alloc())?;
+        let chart = chart_in(bytes.as_slice())?;
+        let mut memory = Memory::new(rt.alloc(), Station { id: 0 }, self.rows, 0)?;
+        let mut desk = desk_over(&mut memory)?;
+        seek(rt, &mut desk, &chart, Station { id: self.start })?;
+        Ok(())
     }
 }
 
-fn routes(rt: &HostRuntime) -> anyhow::Result<()> {
-    let diamond = [
+fn diamonds(rt: &HostRuntime) -> anyhow::Result<()> {
+    let roads = [
         plain_road(0, 1, 1),
         plain_road(0, 2, 1),
         plain_road(1, 3, 1),
         plain_road(2, 3, 1),
     ];
-    show(rt, "a diamond", 16, 0, &plain(&diamond, 4, 3))?;
-    show(
-        rt,
-        "a diamond, with three rows",
-        3,
-        0,
-        &plain(&diamond, 4, 3),
-    )?;
-    show(
-        rt,
-        "a diamond, from a station that is not there",
-        16,
-        4,
-        &plain(&diamond, 4, 3),
-    )?;
-    show(
-        rt,
-        "a diamond, with an unreachable goal",
-        16,
-        1,
-        &plain(&diamond, 4, 2),
-    )?;
+    let diamond = Drawing::new(4, &roads, 3);
+    Trial::new("a diamond", diamond).show(rt)?;
+    Trial::new("a diamond, with three rows", diamond)
+        .with_rows(3)
+        .show(rt)?;
+    Trial::new("a diamond, from a station that is not there", diamond)
+        .starting_at(4)
+        .show(rt)?;
+    let unreachable = Drawing::new(4, &roads, 2);
+    Trial::new("a diamond, with an unreachable goal", unreachable)
+        .starting_at(1)
+        .show(rt)
+}
+
+fn routes(rt: &HostRuntime) -> anyhow::Result<()> {
     let around = [
         plain_road(0, 1, 3),
         plain_road(0, 2, 1),
         plain_road(1, 3, 4),
         plain_road(2, 1, 1),
     ];
-    let misled = Drawing {
-        stations: 4,
-        roads: &around,
-        goal: 3,
-        guessed: 2,
-        guess: 5,
-    };
-    show(
-        rt,
+    Trial::new(
         "a guess that is not consistent: a row is taken out twice",
-        16,
-        0,
-        &misled,
-    )?;
+        Drawing::new(4, &around, 3).with_guess(2, 5),
+    )
+    .show(rt)?;
     let short = [plain_road(0, 1, 2)];
-    show(
-        rt,
-        "a goal with a guess",
-        16,
-        0,
-        &Drawing {
-            stations: 2,
-            roads: &short,
-            goal: 1,
-            guessed: 1,
-            guess: 3,
-        },
-    )?;
+    let guessed = Drawing::new(2, &short, 1).with_guess(1, 3);
+    Trial::new("a goal with a guess", guessed).show(rt)?;
     let cut = [
         plain_road(0, 1, 4500),
         Road {
             from: 0,
             to: 2,
-            trims: 1,
-            millis: 10,
+            cost: Trims {
+                trims: 1,
+                millis: 10,
+            },
         },
         plain_road(1, 2, 4500),
     ];
-    show(
-        rt,
-        "one trim against two long roads",
-        16,
-        0,
-        &plain(&cut, 3, 2),
-    )
+    Trial::new("one trim against two long roads", Drawing::new(3, &cut, 2)).show(rt)
 }
 
 fn limits(rt: &HostRuntime) -> anyhow::Result<()> {
-    let long = [plain_road(0, 1, 4294967295), plain_road(1, 2, 1)];
-    show(rt, "a sum past the limit", 16, 0, &plain(&long, 3, 2))?;
-    show(rt, "a sum at the limit", 16, 0, &plain(&long, 3, 1))?;
-    let estimate = Drawing {
-        stations: 3,
-        roads: &long,
-        goal: 1,
-        guessed: 1,
-        guess: 1,
-    };
-    show(rt, "an estimate past the limit", 16, 0, &estimate)
+    let long = [plain_road(0, 1, u32::MAX), plain_road(1, 2, 1)];
+    Trial::new("a sum past the limit", Drawing::new(3, &long, 2)).show(rt)?;
+    let near = Drawing::new(3, &long, 1);
+    Trial::new("a sum at the limit", near).show(rt)?;
+    Trial::new("an estimate past the limit", near.with_guess(1, 1)).show(rt)
 }
 
 fn small(rt: &HostRuntime) -> anyhow::Result<()> {
     let free = [plain_road(0, 1, 0)];
-    show(rt, "a road that costs nothing", 16, 0, &plain(&free, 2, 1))?;
-    let none: [Road; 0] = [];
-    show(
-        rt,
-        "a goal as the start, with no road",
-        1,
-        0,
-        &plain(&none, 1, 0),
-    )?;
+    Trial::new("a road that costs nothing", Drawing::new(2, &free, 1)).show(rt)?;
+    Trial::new("a goal as the start, with no road", Drawing::new(1, &[], 0))
+        .with_rows(1)
+        .show(rt)?;
     let parallel = [
         plain_road(0, 0, 1),
         plain_road(0, 1, 9),
         plain_road(0, 1, 4),
         plain_road(0, 1, 7),
     ];
-    show(
-        rt,
-        "parallel roads and a loop",
-        16,
-        0,
-        &plain(&parallel, 2, 1),
-    )
+    Trial::new("parallel roads and a loop", Drawing::new(2, &parallel, 1)).show(rt)
 }
 
 pub fn searches(rt: &HostRuntime) -> anyhow::Result<()> {
+    diamonds(rt)?;
     routes(rt)?;
     limits(rt)?;
     small(rt)

@@ -2,6 +2,8 @@
 // printed for all of them is compared with the file `stdout`. `oracle/replay` makes both files.
 #![tactic(auto)]
 
+ghost use Rattle.std.specs.Prelude.{◌<◌};
+
 use std::alloc::{AllocError, Global};
 use std::io::{BufRead, BufReader};
 
@@ -9,8 +11,10 @@ const ROWS: usize = 512;
 
 const LINKS: usize = 2000;
 
-// What a hexadecimal digit stands for; zero for any other byte.
-fn digit(byte: u8) -> u8 {
+// What a hexadecimal digit stands for; zero for any other byte, also for a capital, which `to_digit` would take.
+fn digit(byte: u8) -> u8
+    ensures { result < 16 }
+{
     match byte {
         b'0'..=b'9' => byte - b'0',
         b'a'..=b'f' => byte - b'a' + 10,
@@ -20,24 +24,16 @@ fn digit(byte: u8) -> u8 {
 
 // The bytes that pairs of digits stand for.
 fn decoded(heap: Global, text: &str) -> Result<Vec<u8>, AllocError> {
-    let mut bytes = Vec::new(heap);
-    let mut high = 0u8;
-    let mut waiting = false;
-    for byte in text.bytes() {
-        if waiting {
-            bytes.push((high << 4) | digit(byte))?;
-        } else {
-            high = digit(byte) & 15;
-        }
-        waiting = !waiting;
-    }
-    Ok(bytes)
+    let (pairs, _) = text.as_bytes().as_chunks::<2>();
+    pairs
+        .iter()
+        .map(|[high, low]| 16 * digit(*high) + digit(*low))
+        .collect(heap)
 }
 
 fn replay(rt: &HostRuntime, text: &str) -> anyhow::Result<()> {
     let bytes = decoded(rt.alloc(), text)?;
-    let all = Vec::new(rt.alloc());
-    report::run(rt, all.as_slice(), bytes.as_slice(), ROWS, LINKS)?;
+    report::run(rt, &[], bytes.as_slice(), ROWS, LINKS)?;
     println!(rt; "")?;
     Ok(())
 }

@@ -1,23 +1,23 @@
--- The answer follows the definition: the header, the stations, the roads.
-use Rattle.std.proofs.Common.{sym, ◌∙◌}
-use Rattle.chart.proofs.Findings.{at_header, at_station, at_road, at_end, told}
+-- What the check answers is what the definition says, and so what it says of the bytes is so.
+use Rattle.std.proofs.Common.{◌≡◌, List, ℕ, Ok, Err, Result, sym, subst, rules}
+use Rattle.chart.specs.declared.refusal.ChartRefusal.{ChartRefusal}
+use Rattle.chart.specs.declared.refusal.ChartRefusal.TheVariants.{Station, Road}
+use Rattle.chart.specs.Checked.{checked}
+use Rattle.chart.specs.Verdict.{Says}
+use Rattle.chart.specs.Kept.{says}
 use Rattle.chart.proofs.checking.check.Goals as goal
 
-pub returns-then-not-header_keeps : goal.returns-then-not-header_keeps
-returns-then-not-header_keeps c =
-    let e = at_header c.args.bytes.now c.if-not-header_keeps.ensures in record { is = e; says = told _ _ e }
+told : (bytes : List ℕ) (r : Result (Unit {0}) ChartRefusal) → r ≡ checked bytes → Says bytes r
+told bytes r e = subst (Says bytes) (sym e) (says bytes)
 
-pub returns-in-Some : goal.returns-in-Some
-returns-in-Some c =
-    let e = at_station c.args.bytes.now _ c.if-not-header_keeps.ensures c.in-Some.ensures
-    in record { is = e; says = told _ _ e }
+pub returns-in-Some-clause-says : goal.returns-in-Some-clause-says
+unfolding checked
+returns-in-Some-clause-says c = told _ (Err (Station c.in-Some.station)) (search rules)
 
-pub returns-in-Some-bad_road : goal.returns-in-Some-bad_road
-returns-in-Some-bad_road c =
-    let e = at_road c.args.bytes.now _ c.if-not-header_keeps.ensures (sym c.in_default.is ∙ c.bad_station.ensures) c.in-Some-bad_road.ensures
-    in record { is = e; says = told _ _ e }
+pub returns-in-Some-bad_road-clause-says : goal.returns-in-Some-bad_road-clause-says
+unfolding checked
+returns-in-Some-bad_road-clause-says c = told _ (Err (Road c.in-Some-bad_road.road)) (search rules)
 
-pub returns : goal.returns
-returns c =
-    let e = at_end c.args.bytes.now c.if-not-header_keeps.ensures (sym c.in_default.is ∙ c.bad_station.ensures) (sym c.in_default-bad_road.is ∙ c.bad_road.ensures)
-    in record { is = e; says = told _ _ e }
+pub returns-clause-says : goal.returns-clause-says
+unfolding checked
+returns-clause-says c = told _ (Ok tt) (search rules)

@@ -1,8 +1,12 @@
-use Rattle.planner.proofs.Sizes.{passed, refused}
+-- the calls' own contracts build the history, and the making's contract has the law
+use Rattle.search.specs.History.{after}
 use Rattle.planner.proofs.twice.plan_twice.Goals as goal
 
-pub twice-requires : goal.twice-requires
-twice-requires g c = passed _ _ c.in-Ok.ensures
-
-pub returns-in-Err : goal.returns-in-Err
-returns-in-Err g c = refused _ _ c.in-Err.ensures
+pub returns : goal.returns
+returns g c =
+    let first = after c.in_ok-planner.ensures.made.1 _ _ c.dijkstra-first.ensures in
+    let given = after first _ _ c.hand_out-given.ensures.call in
+    let second = after given _ _ c.astar-second.ensures in
+    let all = after second _ _ c.hand_out-given_again.ensures.call in
+    let law = c.in_ok-planner.ensures.law _ _ all in
+    record { left = _; history = all; before = law.0; seeks = law.1 }

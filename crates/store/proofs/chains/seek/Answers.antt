@@ -1,80 +1,27 @@
-use Rattle.std.proofs.Common.{◌≡◌, ℕ, ◌%◌, ◌<◌, ◌≤◌, length, get_or, sym, ap, ◌∙◌, arith}
+use Rattle.std.proofs.Common.{◌%◌, length, get_or, sym, ap, ◌∙◌, mod-lt, arith}
+use Rattle.std.proofs.lemmas.List.{get_or_default}
 use Rattle.store.specs.declared.rows.Row.{Row}
-use Rattle.store.specs.Rows.{bucket}
-use Rattle.store.proofs.Buckets.{head_of, next_of, before_it}
+use Rattle.store.proofs.Buckets.{from_head, from_next}
 use Rattle.store.proofs.chains.seek.Goals as goal
 
-pub returns-then-r-n : goal.returns-then-r-n
-returns-then-r-n g c k d lk e =
-    let xs = c.args.rows.now in
-    let b : ℕ = c.mark.result % length xs in
-    let kb : bucket g.N.NodeKind.marks xs d k ≡ b = ap (λ v. v % length xs) (g.met.N.NodeKind.alike (get_or xs k d).node c.args.node.now e ∙ sym c.mark.ensures) in
-    let o = head_of g.N.NodeKind.marks xs c.args.n c.requires.linked b c.head_at-r.result c.head_at-r.ensures k d lk kb in
-    omega (arith, o.0, c.if-r-n.true)
+pub loop-row-init : goal.loop-row-init
+loop-row-init g c = (
+  omega arith,
+  from_head g.N.NodeKind.key g.N.NodeKind.marks g.met.N.NodeKind.alike c.args.rows.now c.args.n c.requires.linked c.args.node.now c.mark.result c.mark.ensures c.index-rows-bucket.result (mod-lt c.mark.result (omega (arith, c.requires.fits, c.if-n-eq0.false))),
+)
 
-pub returns-then-bucket_at-b : goal.returns-then-bucket_at-b
-returns-then-bucket_at-b g c k d lk e =
-    let xs = c.args.rows.now in
-    let b : ℕ = c.mark.result % length xs in
-    let kb : bucket g.N.NodeKind.marks xs d k ≡ b = ap (λ v. v % length xs) (g.met.N.NodeKind.alike (get_or xs k d).node c.args.node.now e ∙ sym c.mark.ensures) in
-    let o = head_of g.N.NodeKind.marks xs c.args.n c.requires.linked b c.head_at-r.result c.head_at-r.ensures k d lk kb in
-    c.if-bucket_at-b.true (c.bucket_at.ensures d ∙ o.1)
+pub loop-row-preserved : goal.loop-row-preserved
+loop-row-preserved g c = (
+  omega (arith, c.loop-row.invariant.0, c.loop-row-test.true),
+  λ k d lk e.
+      let i = c.loop-row.invariant.1 k d lk e in
+      from_next g.N.NodeKind.key g.N.NodeKind.marks g.met.N.NodeKind.alike c.args.rows.now c.args.n c.requires.linked c.args.node.now c.mark.result c.mark.ensures c.loop-row.row c.index-rows-row-in-loop-row-2.result c.index-rows-row-in-loop-row.result (omega (arith, c.loop-row.invariant.0, i.0)) c.requires.fits
+      (sym (g.met.N.NodeKind.equal (get_or c.args.rows.now c.loop-row.row c.index-rows-row-in-loop-row.result).node c.args.node.now) ∙ sym c.eq.ensures ∙ c.if-eq.false) k d lk e i.1 i.2,
+)
 
-pub walk-init : goal.walk-init
-walk-init g c =
+pub returns-else-mark-rows : goal.returns-else-mark-rows
+returns-else-mark-rows g c k d lk e =
     let xs = c.args.rows.now in
-    let b : ℕ = c.mark.result % length xs in (
-      c.if-r-n.false,
-      λ d. sym (c.bucket_at.ensures d) ∙ c.if-bucket_at-b.false,
-      λ k d lk e.
-          let kb : bucket g.N.NodeKind.marks xs d k ≡ b = ap (λ v. v % length xs) (g.met.N.NodeKind.alike (get_or xs k d).node c.args.node.now e ∙ sym c.mark.ensures) in
-          (head_of g.N.NodeKind.marks xs c.args.n c.requires.linked b c.head_at-r.result c.head_at-r.ensures k d lk kb).2,
-    )
-
-pub returns-then-p-r : goal.returns-then-p-r
-returns-then-p-r g c =
-    let m = g.N.NodeKind.marks in
-    let key = g.N.NodeKind.key in
-    let xs = c.args.rows.now in
-    let r = c.walk.r in
-    let q : ℕ = key c.args.node.now in
-    let b : ℕ = c.mark.result % length xs in
-    let p = c.next_at-p.result in
-    let step : (k : ℕ) (d : Row g.row.N.Denot g.row.V.Denot) → k < c.args.n → key (get_or xs k d).node ≡ q → (p < r) × (bucket m xs d p ≡ b) × (k ≤ p) =
-    λ k d lk e.
-    let kb : bucket m xs d k ≡ b = ap (λ v. v % length xs) (g.met.N.NodeKind.alike (get_or xs k d).node c.args.node.now e ∙ sym c.mark.ensures) in
-    let lr : k < r = before_it key xs q r k d (sym (c.same_at.ensures d) ∙ c.if-same_at.false) e (c.walk.invariant.2 k d lk e) in
-    next_of m xs c.args.n c.requires.linked r p b c.next_at-p.ensures c.walk.invariant.0 c.walk.invariant.1 k d lr kb in
-    λ k d lk e. omega (arith, (step k d lk e).0, c.if-p-r.true)
-
-pub returns-then-bucket_at-b-2 : goal.returns-then-bucket_at-b-2
-returns-then-bucket_at-b-2 g c =
-    let m = g.N.NodeKind.marks in
-    let key = g.N.NodeKind.key in
-    let xs = c.args.rows.now in
-    let r = c.walk.r in
-    let q : ℕ = key c.args.node.now in
-    let b : ℕ = c.mark.result % length xs in
-    let p = c.next_at-p.result in
-    let step : (k : ℕ) (d : Row g.row.N.Denot g.row.V.Denot) → k < c.args.n → key (get_or xs k d).node ≡ q → (p < r) × (bucket m xs d p ≡ b) × (k ≤ p) =
-    λ k d lk e.
-    let kb : bucket m xs d k ≡ b = ap (λ v. v % length xs) (g.met.N.NodeKind.alike (get_or xs k d).node c.args.node.now e ∙ sym c.mark.ensures) in
-    let lr : k < r = before_it key xs q r k d (sym (c.same_at.ensures d) ∙ c.if-same_at.false) e (c.walk.invariant.2 k d lk e) in
-    next_of m xs c.args.n c.requires.linked r p b c.next_at-p.ensures c.walk.invariant.0 c.walk.invariant.1 k d lr kb in
-    λ k d lk e. c.if-bucket_at-b-2.true (c.bucket_at-in-walk.ensures d ∙ (step k d lk e).1)
-
-pub walk-preserved : goal.walk-preserved
-walk-preserved g c =
-    let m = g.N.NodeKind.marks in
-    let key = g.N.NodeKind.key in
-    let xs = c.args.rows.now in
-    let r = c.walk.r in
-    let q : ℕ = key c.args.node.now in
-    let b : ℕ = c.mark.result % length xs in
-    let p = c.next_at-p.result in
-    let step : (k : ℕ) (d : Row g.row.N.Denot g.row.V.Denot) → k < c.args.n → key (get_or xs k d).node ≡ q → (p < r) × (bucket m xs d p ≡ b) × (k ≤ p) =
-    λ k d lk e.
-    let kb : bucket m xs d k ≡ b = ap (λ v. v % length xs) (g.met.N.NodeKind.alike (get_or xs k d).node c.args.node.now e ∙ sym c.mark.ensures) in
-    let lr : k < r = before_it key xs q r k d (sym (c.same_at.ensures d) ∙ c.if-same_at.false) e (c.walk.invariant.2 k d lk e) in
-    next_of m xs c.args.n c.requires.linked r p b c.next_at-p.ensures c.walk.invariant.0 c.walk.invariant.1 k d lr kb in
-    (omega (arith, c.if-p-r.false, c.walk.invariant.0), λ d. sym (c.bucket_at-in-walk.ensures d) ∙ c.if-bucket_at-b-2.false, λ k d lk e. (step k d lk e).2)
+    let i = c.loop-row.invariant.1 k d lk e in
+    let s = get_or_default xs c.loop-row.row c.index-rows-row.result d (omega (arith, c.loop-row.invariant.0, c.requires.fits, i.0)) in
+    c.if-mark-rows.false (ap (λ v. v % length xs) (c.mark-in-loop-row.ensures ∙ ap (λ (r : Row g.row.N.Denot g.row.V.Denot). g.N.NodeKind.marks r.node) s) ∙ i.1)

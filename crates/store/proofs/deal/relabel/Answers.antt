@@ -1,14 +1,16 @@
-use Rattle.std.proofs.Common.{◌+◌, ◌<◌, List, length, get_or, sym, refl, subst, arith}
-use Rattle.store.specs.declared.slots.Slot.{Slot}
-use Rattle.store.specs.Deal.{renamed, Relabelled}
-use Rattle.store.proofs.Dealing.{relabelled_more, some_slot}
+use Rattle.std.proofs.Common.{get_or, ◌∙◌, arith}
+use Rattle.std.proofs.lemmas.List.{get_or_default}
+use Rattle.std.proofs.lemmas.List.Edits.{map_over_more}
+use Rattle.store.specs.Deal.{relabelled}
+use Rattle.store.proofs.Dealing.{over_all}
 use Rattle.store.proofs.deal.relabel.Goals as goal
 
-pub loop-i-preserved : goal.loop-i-preserved
-loop-i-preserved g c =
-    let ys = c.loop-i.slots in
-    let i = c.loop-i.i in
-    let l : i < length ys = omega (arith, c.loop-i.auto.slots, c.requires) in
-    let d = some_slot ys i l in
-    subst (λ (zs : List (Slot g.row.C.Denot)). Relabelled c.args.slots.now zs (i + 1)) (sym (c.label.ensures d))
-    (relabelled_more c.args.slots.now ys i (renamed (get_or ys i d)) d l c.loop-i.invariant refl refl refl)
+pub loop-slot-preserved : goal.loop-slot-preserved
+loop-slot-preserved g c =
+    let ys = c.loop-slot.slot-items in
+    let i = c.loop-slot.slot-index in
+    let x = get_or ys i c.slot-item.result in
+    map_over_more relabelled c.args.slots.now ys i x c.loop-slot-test.true c.loop-slot.invariant (get_or_default ys i c.slot-item.result x (omega (arith, c.loop-slot.auto.slot-items, c.loop-slot-test.true)))
+
+pub returns : goal.returns
+returns g c = c.loop-slot.invariant ∙ over_all relabelled c.args.slots.now c.loop-slot.slot-index c.loop-slot-test.false

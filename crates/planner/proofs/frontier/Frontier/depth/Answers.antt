@@ -1,51 +1,47 @@
-use Rattle.std.proofs.Common.{◌≡◌, ℕ, ◌+◌, ◌-◌, [], length, get_or, sym, ap, ◌∙◌, arith}
-use Rattle.store.specs.Registers.{listed}
+use Rattle.std.proofs.Common.{◌≡◌, ℕ, ◌+◌, ◌-◌, List, [], length, get_or, sym, ap, ◌∙◌, arith}
+use Rattle.std.proofs.lemmas.List.{get_or-map, length-map}
 use Rattle.search.specs.Rows.{Row, no_row, walk}
 use Rattle.planner.specs.declared.frontier.Reached.{Reached}
 use Rattle.planner.specs.Views.{row_of, rows_of}
-use Rattle.planner.proofs.Maps.{some_of, get_d_map}
-use Rattle.planner.proofs.Tracing.{length_walk, steps_more, steps_root, steps_last}
+use Rattle.planner.proofs.Maps.{some_of, parents_at}
+use Rattle.planner.proofs.Tracing.{steps, length_walk, steps_more, steps_root, steps_last}
 use Rattle.planner.proofs.frontier.Frontier.depth.Goals as goal
 
-pub loop-i-preserved : goal.loop-i-preserved
-loop-i-preserved g c =
-    let key = g.N.NodeKind.key in
-    let w = g.C.CostKind.weight in
-    let f = c.args.self.now in
-    let l = listed f.register in
-    let i = c.loop-i.i in
-    let n = c.loop-i.n in
-    let all = c.len-all.result in
-    let inv = c.loop-i.invariant in
-    let p = c.value-i.result in
-    let d = some_of l i inv.0 in
-    let e : p.parent ≡ (get_or l i d).1.parent = ap (λ (x : Reached g.row.C.Denot). x.parent) (c.value-i.ensures d) in
-    let q : p.parent ≡ (get_or (rows_of key w l) i no_row).parent = e ∙ sym (ap (λ (x : Row). x.parent) (get_d_map (row_of key w) l i d no_row inv.0)) in
-    let fuel : all + 1 - n ≡ (all + 1 - (n + 1)) + 1 = omega (arith, inv.1, inv.2) in
-    let s = steps_more (all + 1 - n) (all + 1 - (n + 1)) (rows_of key w l) i p.parent (λ z. omega (arith, z)) fuel q in
-    (omega (arith, e, c.requires.inward (i, d) inv.0), omega arith, omega arith, omega (arith, inv.3, s))
+-- where one row is left, the way is counted
+counted : (rows : List Row) (all depth left row : ℕ) → all ≡ length rows → depth + left ≡ steps all rows row + 1 → left ≡ 1 → depth ≡ length (walk (length rows) rows row [])
+counted rows all depth left row e h one =
+    (let t : depth ≡ length (walk all rows row []) = omega (arith, length_walk all rows row []) in t) ∙ ap (λ (x : ℕ). length (walk x rows row [])) e
 
-pub returns-else-n-all : goal.returns-else-n-all
-returns-else-n-all g c =
+pub loop-depth-preserved : goal.loop-depth-preserved
+loop-depth-preserved g c =
     let key = g.N.NodeKind.key in
     let w = g.C.CostKind.weight in
-    let rows = rows_of key w (listed c.args.self.now.register) in
-    let inv = c.loop-i.invariant in
-    let n = c.loop-i.n in
+    let l = c.self.inside.register.listed in
+    let at = c.loop-depth.at in
+    let n = c.loop-depth.depth in
     let all = c.len-all.result in
-    let one : all + 1 - n ≡ 1 = omega (arith, inv.2) in
-    let s = steps_last (all + 1 - n) rows c.loop-i.i one in
-    let z = length_walk all rows c.args.row [] in
-    (let t : n ≡ length (walk all rows c.args.row []) = omega (arith, inv.3, s, z) in t) ∙ ap (λ (x : ℕ). length (walk x rows c.args.row [])) c.len-all.ensures
+    let inv = c.loop-depth.invariant in
+    let p = c.value-at.result in
+    let d = some_of l at inv.0 in
+    let e : p.parent ≡ (get_or l at d).1.parent = ap (λ (x : Reached g.row.C.Denot). x.parent) (c.value-at.ensures d) in
+    let q : p.parent ≡ (get_or (rows_of key w l) at no_row).parent = e ∙ sym (ap (λ (x : Row). x.parent) (get_or-map (row_of key w) l at d no_row inv.0)) in
+    let s = steps_more (all + 1 - n) (all + 1 - (n + 1)) (rows_of key w l) at p.parent (λ z. c.if-at-eq0.false z) (omega arith) q in
+    (omega (arith, e, parents_at (length l) l at d inv.0 c.self.invariant.parents), omega (arith, inv.1, s))
 
-pub returns-after-loop-i : goal.returns-after-loop-i
-returns-after-loop-i g c =
-    let key = g.N.NodeKind.key in
-    let w = g.C.CostKind.weight in
-    let rows = rows_of key w (listed c.args.self.now.register) in
-    let inv = c.loop-i.invariant in
-    let n = c.loop-i.n in
+pub returns-then-at-eq0 : goal.returns-then-at-eq0
+returns-then-at-eq0 g c =
+    let r = row_of g.N.NodeKind.key g.C.CostKind.weight in
+    let l = c.self.inside.register.listed in
     let all = c.len-all.result in
-    let s = steps_root (all + 1 - n) rows c.loop-i.i (omega arith) (omega (arith, inv.2)) in
-    let z = length_walk all rows c.args.row [] in
-    (let t : n ≡ length (walk all rows c.args.row []) = omega (arith, inv.3, s, z) in t) ∙ ap (λ (x : ℕ). length (walk x rows c.args.row [])) c.len-all.ensures
+    rw (← c.self.view_is)
+    (counted (rows_of g.N.NodeKind.key g.C.CostKind.weight l) all _ _ c.args.row (c.len-all.ensures.count ∙ sym (length-map l r)) c.loop-depth.invariant.1 (steps_root (all + 1 - c.loop-depth.depth) _ c.loop-depth.at c.if-at-eq0.true (omega arith)))
+
+pub returns : goal.returns
+returns g c =
+    let r = row_of g.N.NodeKind.key g.C.CostKind.weight in
+    let l = c.self.inside.register.listed in
+    let all = c.len-all.result in
+    let inv = c.loop-depth.invariant in
+    let n : c.loop-depth.depth ≡ all = omega (arith, c.loop-depth.auto.depth-end, c.len-all.ensures.count, inv.0) in
+    rw (← c.self.view_is)
+    (counted (rows_of g.N.NodeKind.key g.C.CostKind.weight l) all all (steps (all + 1 - c.loop-depth.depth) (rows_of g.N.NodeKind.key g.C.CostKind.weight l) c.loop-depth.at) c.args.row (c.len-all.ensures.count ∙ sym (length-map l r)) (omega (arith, inv.1, n)) (steps_last (all + 1 - c.loop-depth.depth) _ c.loop-depth.at (omega (arith, n))))

@@ -1,50 +1,43 @@
-use Rattle.std.proofs.Common.{[], ◌∷◌, length, sym, ap, ◌∙◌, arith, length-append}
+use Rattle.std.proofs.Common.{ltb, [], ◌∷◌, sym, ap, ◌∙◌, ltb-true}
 use Rattle.std.proofs.lemmas.List.{map-append, length-map}
-use Rattle.kinds.specs.Kind.{kind}
-use Rattle.graph.specs.Meaning.{meaning}
-use Rattle.store.specs.Heaps.{waits}
-use Rattle.store.specs.Registers.{listed}
 use Rattle.planner.specs.declared.frontier.Reached.{Reached}
-use Rattle.planner.specs.Views.{capacity, row_of, rows_of, entries_of}
-use Rattle.planner.proofs.Goods.{same, added, then}
-use Rattle.planner.proofs.Relaxes.{newly, not_newly, some_added, none_added}
+use Rattle.planner.specs.Views.{row_of, rows_of, entries_of}
+use Rattle.planner.proofs.Goods.{added, in_rows, number_is}
+use Rattle.planner.proofs.Relaxes.{exit_or, some_if, none_if, newly, not_newly}
 use Rattle.planner.proofs.frontier.Frontier.found_new.Goals as goal
 
-pub enter-requires : goal.enter-requires
-enter-requires g c =
-    let f = c.args.self.now in
-    let a = c.in-Some.ensures in
-    let x : g.row.N.Denot × Reached g.row.C.Denot = (c.args.node, record { cost = c.args.sum; parent = c.args.row }) in
-    let s = some_added _ _ _ _ _ _ a.number a.listed in
-    let t = added g.N.NodeKind.key g.N.NodeKind.marks g.C.CostKind.weight f c.add.new.self c.requires.good a.kept a.room x c.requires.inside s.2 in
-    record { good = t.good; inside = omega (arith, s.1, ap length s.2, length-append (listed f.register) (x ∷ [])) }
+pub add-requires : goal.add-requires
+add-requires g c =
+    record { fresh = number_is g.N.NodeKind.key g.C.CostKind.weight c.self.inside.register c.self.inside.heap _ c.self.view_is c.requires.fresh }
 
-pub returns-in-None : goal.returns-in-None
-returns-in-None g c =
-    let f = c.args.self.now in
-    let a = c.in-None.ensures in
-    let s = none_added _ _ _ _ _ a.number a.listed in
-    record {
-      after = same g.N.NodeKind.key g.N.NodeKind.marks g.C.CostKind.weight f c.add.new.self c.requires.good a.kept a.room s.1;
-      answer = not_newly (kind g.C.CostKind.fits g.C.CostKind.greatest) (meaning g.G.Graph.holds g.G.Graph.zones g.G.Graph.counts g.G.Graph.roads g.G.Graph.goals c.args.graph.now) (g.G.Graph.guesses c.args.graph.now) _ _ _ _ _ _ _ s.0;
-    }
+pub returns-in_err-at-clause-answer : goal.returns-in_err-at-clause-answer
+returns-in_err-at-clause-answer g c =
+    let r = c.self.inside.register in
+    let a = c.in_err-at.ensures in
+    rw (← c.self.view_is)
+    (exit_or c.add.result _ _ _ _ c.from_residual.ensures.1 a.value
+    ∙ not_newly _ _ _ _ _ _ _ _ _ _ (ap (λ n. ltb n r.room) (length-map r.listed (row_of g.N.NodeKind.key g.C.CostKind.weight)) ∙ none_if _ _ (rw a.ok_part at c.add.ensures.number)))
 
-pub returns-in-Some : goal.returns-in-Some
-returns-in-Some g c =
+pub invariant_of-self-2 : goal.invariant_of-self-2
+invariant_of-self-2 g c =
+    let r = c.self.inside.register in
+    let h = c.self.inside.heap in
+    let a = c.add.ensures in
+    let s = some_if _ _ _ (rw c.in_ok-at.ensures.ok_part at a.number) in
+    added r c.add.new.self h c.self.invariant a.room _ (in_rows g.N.NodeKind.key g.C.CostKind.weight r h c.self.view_is c.requires.inside) (ltb-true _ _ s.0) (rw s.0 at a.listed)
+
+pub returns-clause-answer : goal.returns-clause-answer
+returns-clause-answer g c =
     let key = g.N.NodeKind.key in
     let w = g.C.CostKind.weight in
-    let f = c.args.self.now in
-    let a = c.in-Some.ensures in
-    let x : g.row.N.Denot × Reached g.row.C.Denot = (c.args.node, record { cost = c.args.sum; parent = c.args.row }) in
-    let s = some_added _ _ _ _ _ _ a.number a.listed in
-    let t = added key g.N.NodeKind.marks w f c.add.new.self c.requires.good a.kept a.room x c.requires.inside s.2 in
-    record {
-      after = then f _ _ t c.enter.ensures.after;
-      answer =
-          newly (kind g.C.CostKind.fits g.C.CostKind.greatest) (meaning g.G.Graph.holds g.G.Graph.zones g.G.Graph.counts g.G.Graph.roads g.G.Graph.goals c.args.graph.now) (g.G.Graph.guesses c.args.graph.now) (capacity f) _ _ c.args.row c.args.rank (key c.args.node) (w c.args.sum) _ (rows_of key w (listed f.register)) _ (entries_of w (waits f.heap)) _
-          s.0
-          a.room
-          (s.1 ∙ sym (length-map (listed f.register) (row_of key w)))
-          (ap (rows_of key w) s.2 ∙ map-append (row_of key w) (listed f.register) (x ∷ []))
-          c.enter.ensures.answer;
-    }
+    let r = c.self.inside.register in
+    let a = c.add.ensures in
+    let x : g.row.N.Denot × Reached g.row.C.Denot = (c.args.road.node, record { cost = c.args.road.sum; parent = c.args.road.row }) in
+    let s = some_if _ _ _ (rw c.in_ok-at.ensures.ok_part at a.number) in
+    rw (← c.self.view_is)
+    (newly _ _ _ _ _ _ c.args.road.row c.args.road.rank (key c.args.road.node) (w c.args.road.sum) _ (rows_of key w r.listed) _ (entries_of w c.self.inside.heap.waits) _
+    (ap (λ n. ltb n r.room) (length-map r.listed (row_of key w)) ∙ s.0)
+    a.room
+    (s.1 ∙ sym (length-map r.listed (row_of key w)))
+    (ap (rows_of key w) (rw s.0 at a.listed) ∙ map-append (row_of key w) r.listed (x ∷ []))
+    c.enter.ensures.answer)

@@ -1,13 +1,9 @@
-use Rattle.std.proofs.Common.{◌≡◌, ℕ, ◌+◌, Ok, sym, refl, ap, ◌∙◌, arith}
-use Rattle.kinds.specs.Kind.{Kind, kind}
-use Rattle.graph.specs.Meaning.{Meaning, meaning}
-use Rattle.search.specs.Machine.{State, Result}
-use Rattle.planner.specs.Views.{capacity, state_of}
-use Rattle.planner.proofs.Relaxes.{some_fits, none_fits, relaxes, unsummed}
-use Rattle.graph.specs.Meaning.{Road, opened, closed, faulty}
-use Rattle.graph.specs.Answers.{road_of}
-use Rattle.search.specs.Machine.{relax, summed, fine, refused}
+use Rattle.std.proofs.Common.{◌≡◌, ℕ, ◌+◌, ap, ◌∙◌}
+use Rattle.kinds.specs.Kind.{Kind}
+use Rattle.graph.specs.Meaning.{Meaning, Road, opened, closed, faulty}
+use Rattle.search.specs.Machine.{State, Result, relax, summed, fine, refused}
 use Rattle.search.specs.declared.refusal.SeekRefusal.TheVariants.{FaultyRoad}
+use Rattle.planner.proofs.Relaxes.{some_if, none_if, relaxes, unsummed}
 use Rattle.planner.proofs.frontier.Frontier.relax.Goals as goal
 
 module _ (K : Kind) (M : Meaning) (guess : ℕ → ℕ) (cap : ℕ) (i c rank : ℕ) (s : State) (rd : Road) where
@@ -23,44 +19,27 @@ module _ (K : Kind) (M : Meaning) (guess : ℕ → ℕ) (cap : ℕ) (i c rank : 
   unfolding relax
   on_opened k w r e h = h ∙ ap (λ (x : Road). relax K M guess cap i c rank x s) e
 
-pub returns-in-Err : goal.returns-in-Err
-returns-in-Err g c =
-    record {
-      after = record { good = c.requires.good; room = refl; grows = omega arith };
-      answer = on_faulty (kind g.C.CostKind.fits g.C.CostKind.greatest) (meaning g.G.Graph.holds g.G.Graph.zones g.G.Graph.counts g.G.Graph.roads g.G.Graph.goals c.args.graph.now) (g.G.Graph.guesses c.args.graph.now) _ _ _ _ _ _ c.in-Err.fault c.in-Err.ensures;
-    }
+pub returns-in-Err-clause-answer : goal.returns-in-Err-clause-answer
+returns-in-Err-clause-answer g c =
+    on_faulty g.C.CostKind.kind (g.G.Graph.means c.args.graph.now) (g.G.Graph.guesses c.args.graph.now) _ _ _ _ _ _ c.in-Err.fault c.in-Err.ensures
 
-pub returns-in-None : goal.returns-in-None
-returns-in-None g c =
-    record {
-      after = record { good = c.requires.good; room = refl; grows = omega arith };
-      answer = on_closed (kind g.C.CostKind.fits g.C.CostKind.greatest) (meaning g.G.Graph.holds g.G.Graph.zones g.G.Graph.counts g.G.Graph.roads g.G.Graph.goals c.args.graph.now) (g.G.Graph.guesses c.args.graph.now) _ _ _ _ _ _ (ap (λ x. road_of g.N.NodeKind.key g.C.CostKind.weight (Ok x)) (sym c.in-None.is) ∙ c.in-Ok.ensures);
-    }
+pub returns-in-Ok-None-clause-answer : goal.returns-in-Ok-None-clause-answer
+returns-in-Ok-None-clause-answer g c =
+    on_closed g.C.CostKind.kind (g.G.Graph.means c.args.graph.now) (g.G.Graph.guesses c.args.graph.now) _ _ _ _ _ _ (rw c.in-Ok-None.field-0-is at c.in-Ok-None.ensures)
 
-pub returns-in-None-sum : goal.returns-in-None-sum
-returns-in-None-sum g c =
-    let K = kind g.C.CostKind.fits g.C.CostKind.greatest in
-    let M = meaning g.G.Graph.holds g.G.Graph.zones g.G.Graph.counts g.G.Graph.roads g.G.Graph.goals c.args.graph.now in
+pub returns-in-None-clause-answer : goal.returns-in-None-clause-answer
+returns-in-None-clause-answer g c =
+    let K = g.C.CostKind.kind in
+    let M = g.G.Graph.means c.args.graph.now in
     let h = g.G.Graph.guesses c.args.graph.now in
-    let w = g.C.CostKind.weight in
-    let key = g.N.NodeKind.key in
-    let f = c.args.self.now in
-    let fit = none_fits _ _ c.in-None-sum.ensures in
-    record {
-      after = record { good = c.requires.good; room = refl; grows = omega arith };
-      answer = on_opened K M h (capacity f) c.args.row (w c.args.cost) c.args.rank (state_of key w f) _ (key c.in-Some.open.0) (w c.in-Some.open.1) _ (ap (λ x. road_of key w (Ok x)) (sym c.in-Some.is) ∙ c.in-Ok.ensures) (unsummed K M h (capacity f) _ c.args.row c.args.rank (key c.in-Some.open.0) _ (state_of key w f) fit);
-    }
+    let s = c.args.self.now in
+    on_opened K M h s.capacity _ _ _ s.state _ _ _ _ (rw c.in-Ok-Some.field-0-is at c.in-Ok-Some.ensures) (unsummed K M h s.capacity _ _ _ _ _ s.state (none_if _ _ c.in-None.ensures))
 
-pub returns-in-Some-sum : goal.returns-in-Some-sum
-returns-in-Some-sum g c =
-    let K = kind g.C.CostKind.fits g.C.CostKind.greatest in
-    let M = meaning g.G.Graph.holds g.G.Graph.zones g.G.Graph.counts g.G.Graph.roads g.G.Graph.goals c.args.graph.now in
+pub returns-in-Some-clause-answer : goal.returns-in-Some-clause-answer
+returns-in-Some-clause-answer g c =
+    let K = g.C.CostKind.kind in
+    let M = g.G.Graph.means c.args.graph.now in
     let h = g.G.Graph.guesses c.args.graph.now in
-    let w = g.C.CostKind.weight in
-    let key = g.N.NodeKind.key in
-    let f = c.args.self.now in
-    let fit = some_fits _ _ _ c.in-Some-sum.ensures in
-    record {
-      after = c.arrive.ensures.after;
-      answer = on_opened K M h (capacity f) c.args.row (w c.args.cost) c.args.rank (state_of key w f) _ (key c.in-Some.open.0) (w c.in-Some.open.1) _ (ap (λ x. road_of key w (Ok x)) (sym c.in-Some.is) ∙ c.in-Ok.ensures) (relaxes K M h (capacity f) _ c.args.row c.args.rank (key c.in-Some.open.0) _ _ (state_of key w f) _ fit.0 fit.1 c.arrive.ensures.answer);
-    }
+    let s = c.args.self.now in
+    let fit = some_if _ _ _ c.in-Some.ensures in
+    on_opened K M h s.capacity _ _ _ s.state _ _ _ _ (rw c.in-Ok-Some.field-0-is at c.in-Ok-Some.ensures) (relaxes K M h s.capacity _ _ _ _ _ _ s.state _ fit.0 fit.1 c.arrive.ensures.answer)

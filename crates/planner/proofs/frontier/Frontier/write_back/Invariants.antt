@@ -1,18 +1,13 @@
-use Rattle.std.proofs.Common.{◌≡◌, ◌<◌, ◌≤◌, [], map, take, drop}
-use Rattle.store.specs.Registers.{listed}
+use Rattle.std.proofs.Common.{◌<◌, [], map, length, drop}
 use Rattle.search.specs.Rows.{walk}
-use Rattle.planner.specs.Views.{size, rows_of}
+use Rattle.planner.specs.Views.{rows_of}
 use Rattle.planner.proofs.Tracing.{Left}
 use Rattle.planner.proofs.frontier.Frontier.write_back.Given as goal
 
-abbrev pub invariant-loop-at : goal.invariant-loop-at
-invariant-loop-at g l =
+-- what is written from this place on is the end of the way, and the rest of it is left
+abbrev pub invariant-loop-place : goal.invariant-loop-place
+invariant-loop-place g l =
     let key = g.N.NodeKind.key in
-    let rows = rows_of key g.C.CostKind.weight (listed l.self.register) in
-    (l.i < size l.self)
-    × (l.at ≤ l.n)
-    × (drop l.n l.out ≡ drop l.n l.initial.out)
-    × Left rows (walk (size l.self) rows l.initial.i []) l.at l.i (map key (drop l.at (take l.n l.out)))
-
-abbrev pub decreases-loop-at : goal.decreases-loop-at
-decreases-loop-at g l = l.at
+    let listed = l.self-inside.register.listed in
+    let rows = rows_of key g.C.CostKind.weight listed in
+    (l.at < length listed) × Left rows (walk (length rows) rows l.initial.at []) l.place l.at (map key (drop l.place l.out))

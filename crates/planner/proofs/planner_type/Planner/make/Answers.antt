@@ -1,29 +1,14 @@
-use Rattle.std.proofs.Common.{◌≡◌, [], length, ap, arith}
-use Rattle.kinds.specs.Kind.{kind}
-use Rattle.store.specs.Registers.{listed}
+use Rattle.std.proofs.Common.{arith}
+use Rattle.std.proofs.lemmas.Bool.Decides.{nat_tests}
 use Rattle.search.specs.History.{made}
 use Rattle.search.proofs.Histories.{histories_fair}
-use Rattle.planner.proofs.Maps.{never}
-use Rattle.planner.proofs.Sizes.{sizes}
 use Rattle.planner.proofs.planner_type.Planner.make.Goals as goal
 
-pub over-requires : goal.over-requires
-over-requires g c =
-    let s = sizes (length c.args.rows.now) (length c.args.slots.now) (length c.args.links.now) c.requires in
-    record { some = s.some; few = s.few; even = s.even }
+pub over-requires-clause-even : goal.over-requires-clause-even
+over-requires-clause-even g c = grind (arith, nat_tests)
 
-pub invariant_of-result : goal.invariant_of-result
-invariant_of-result g c =
-    let f = c.over.ensures in
-    let none : length (listed c.over.result.register) ≡ 0 = ap length f.empty in
-    record {
-      some = f.some;
-      few = f.few;
-      even = f.even;
-      fits = f.fits;
-      inward = λ v h. absurd (omega (arith, none, h));
-      sunk = λ j e. never _ (cc);
-    }
+pub returns-clause-law : goal.returns-clause-law
+returns-clause-law g c = histories_fair g.C.CostKind.kind
 
-pub returns : goal.returns
-returns g c = record { law = histories_fair (kind g.C.CostKind.fits g.C.CostKind.greatest); begins = made _; held = λ j. record { capacity = record { rows = c.over.ensures.room j; links = c.new.ensures j }; pending = [] } }
+pub returns-clause-begins : goal.returns-clause-begins
+returns-clause-begins g c = made _

@@ -1,13 +1,11 @@
-use Rattle.std.proofs.Common.{sym}
+use Rattle.std.proofs.Common.{sym, ◌∙◌}
 use Rattle.store.proofs.Buckets.{number_some, number_none}
 use Rattle.store.proofs.register.Register.find.Goals as goal
 
-pub returns-in-Some : goal.returns-in-Some
-returns-in-Some g c =
-    let k = c.requires.kept in
-    let o = c.in-Some.ensures in
-    sym (number_some g.N.NodeKind.key c.args.self.now.rows.now c.args.self.now.len (g.N.NodeKind.key c.args.node.now) c.in-Some.r k.fits k.single o.0 o.1)
+pub returns-in_err-row : goal.returns-in_err-row
+returns-in_err-row g c =
+    rw (← c.self.view_is) (c.from_residual.ensures ∙ sym (number_none g.N.NodeKind.key c.self.inside.rows.now c.self.inside.len (g.N.NodeKind.key c.args.node.now) c.self.invariant.fits c.in_err-row.ensures))
 
-pub returns-in-None : goal.returns-in-None
-returns-in-None g c =
-    sym (number_none g.N.NodeKind.key c.args.self.now.rows.now c.args.self.now.len (g.N.NodeKind.key c.args.node.now) c.requires.kept.fits c.in-None.ensures)
+pub returns : goal.returns
+returns g c =
+    rw (← c.self.view_is) (sym (number_some g.N.NodeKind.key c.self.inside.rows.now c.self.inside.len (g.N.NodeKind.key c.args.node.now) c.in_ok-row.row c.self.invariant.fits c.self.invariant.single c.in_ok-row.ensures.0 c.in_ok-row.ensures.1))

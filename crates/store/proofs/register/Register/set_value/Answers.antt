@@ -1,22 +1,26 @@
-use Rattle.std.proofs.Common.{◌<◌, arith}
-use Rattle.store.proofs.Buckets.{length_found}
+use Rattle.std.proofs.Common.{◌<◌, refl, arith}
+use Rattle.std.proofs.lemmas.List.{length-set}
+use Rattle.store.proofs.Buckets.{length_found, linked_valued, single_valued, found_valued}
 use Rattle.store.proofs.register.Register.set_value.Goals as goal
 
-pub revalue-requires : goal.revalue-requires
-revalue-requires g c =
-    let k = c.requires.kept in
-    omega (arith, length_found c.args.self.now.rows.now c.args.self.now.len k.fits, k.fits, c.requires.inside)
-
-pub returns : goal.returns
-returns g c =
-    let xs = c.args.self.now.rows.now in
-    let n = c.args.self.now.len in
-    let k = c.requires.kept in
-    let e = length_found xs n k.fits in
-    let l : c.args.row < n = omega (arith, c.requires.inside) in
-    let long = c.revalue.auto.rows in
+pub invariant_of-self : goal.invariant_of-self
+invariant_of-self g c =
+    let xs = c.self.inside.rows.now in
+    let n = c.self.inside.len in
+    let k = c.self.invariant in
+    let d = c.index-rows-row.result in
+    let l : c.args.row < n = omega (arith, length_found xs n k.fits, rw (← c.self.view_is) at c.requires) in
     record {
-      listed = c.revalue.ensures.found n l k.fits;
-      kept = record { fits = omega (arith, long, k.fits); few = omega (arith, long, k.few); linked = c.revalue.ensures.linked n k.linked; single = c.revalue.ensures.single n k.single };
-      room = long;
+      fits = rw length-set k.fits;
+      few = rw length-set k.few;
+      linked = linked_valued xs c.args.row c.args.value _ d (omega (arith, k.fits)) refl refl refl refl g.N.NodeKind.marks n k.linked;
+      single = single_valued xs c.args.row c.args.value _ d (omega (arith, k.fits)) refl refl refl refl g.N.NodeKind.key n k.single;
     }
+
+pub returns-clause-listed : goal.returns-clause-listed
+returns-clause-listed g c d =
+    let xs = c.self.inside.rows.now in
+    let n = c.self.inside.len in
+    let k = c.self.invariant in
+    let l : c.args.row < n = omega (arith, length_found xs n k.fits, rw (← c.self.view_is) at c.requires) in
+    rw (← c.self.view_is) (found_valued xs c.args.row c.args.value _ c.index-rows-row.result (omega (arith, k.fits)) refl refl refl refl n l k.fits d)

@@ -1,17 +1,9 @@
-use Rattle.std.proofs.Common.{◌<◌, sym, ap, ◌∙◌, arith}
-use Rattle.store.specs.declared.rows.Row.{Row}
+use Rattle.std.proofs.Common.{sym, ap, arith}
 use Rattle.store.proofs.Buckets.{length_found, found_at}
 use Rattle.store.proofs.register.Register.value.Goals as goal
 
-pub value_at-requires : goal.value_at-requires
-value_at-requires g c =
-    omega (arith, length_found c.args.self.now.rows.now c.args.self.now.len c.requires.fits, c.requires.fits, c.requires.inside)
-
 pub returns : goal.returns
 returns g c d =
-    let xs = c.args.self.now.rows.now in
-    let n = c.args.self.now.len in
-    let e = length_found xs n c.requires.fits in
-    let l : c.args.row < n = omega (arith, c.requires.inside) in
-    let r : Row g.row.N.Denot g.row.V.Denot = record { node = d.0; value = d.1; next = 0; head = 0 } in
-    c.value_at.ensures r ∙ ap (λ (x : g.row.N.Denot × g.row.V.Denot). x.1) (sym (found_at xs n c.args.row r d c.requires.fits l))
+    let xs = c.self.inside.rows.now in
+    let n = c.self.inside.len in
+    rw (← c.self.view_is) (ap (λ (x : g.row.N.Denot × g.row.V.Denot). x.1) (sym (found_at xs n c.args.row _ d c.self.invariant.fits (omega (arith, length_found xs n c.self.invariant.fits, rw (← c.self.view_is) at c.requires)))))
