@@ -1,5 +1,6 @@
 -- What is told of a chart, from what a planner over memory of known sizes came to.
-use Rattle.std.proofs.Common.{◌≡◌, ℕ, true, List, map, take, Ok, sym, ap, ◌∙◌, subst, inr}
+use Rattle.std.proofs.Common.{◌≡◌, ℕ, true, List, map, take, Ok, Err, Result, sym, ap, ◌∙◌, subst, inr, arith}
+use Rattle.std.specs.Result.{MatchResult, is_ok}
 use Rattle.std.proofs.lemmas.List.{take-map}
 use Rattle.kinds.specs.declared.station.Station.{Station}
 use Rattle.chart.specs.Checked.{checked}
@@ -8,6 +9,11 @@ use Rattle.planner.specs.Making.{sizes_fit, made_over}
 use Rattle.report.specs.declared.method.Method.{Method}
 use Rattle.capi.specs.declared.told.Told.{Told}
 use Rattle.capi.specs.Tells.{station_key, Tells, ByChart}
+
+-- what stood before a `map_err` that answered a value
+pub ok_before : {T E F : Type 0} (P : E → Type 0) {x : T} (r : Result T E) (s : Result T F) → MatchResult r (λ y. s ≡ Ok y) P → is_ok s ≡ is_ok r → s ≡ Ok x → r ≡ Ok x
+ok_before P (Ok y) s m v e = grind arith
+ok_before P (Err y) s m v e = grind arith
 
 -- the planner, over a rows, b slots and l links, writes n nodes, and their numbers go out
 pub tells_chart : (m : Method) (bytes read : List ℕ) (rows room : ℕ) (t : Told) (s : Held) (nodes : List Station) (out : List ℕ) (a b l n : ℕ)

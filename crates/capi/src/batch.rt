@@ -1,16 +1,25 @@
 // A batch of searches by one planner.
 ghost use Rattle.std.specs.Prelude.{◌≡◌, map, length, take};
-ghost use Rattle.chart.specs.Checked.{checked};
-ghost use Rattle.capi.specs.Codes.{told_of};
-ghost use Rattle.capi.specs.Tells.{station_key, Tells, ByChart};
+ghost use Rattle.capi.specs.Codes.{method_numbered, told_of};
+ghost use Rattle.capi.specs.Tells.{station_key, Tells, Batch as TellsBatch};
 
 use crate::route::{Failure, Route};
 use chart::Chart;
 use kinds::{Station, Trims};
-use planner::{Lent, Planner};
-use report::Method;
-use report::memory::Memory;
+use planner::Planner;
+use report::{Desk, Memory, Method};
 use std::alloc::Global;
+
+// The search of a number: a caller in C names it so.
+fn numbered(method: u32) -> Option<Method>
+    ensures { result ≡ method_numbered method }
+{
+    match method {
+        0 => Some(Method::Dijkstra),
+        1 => Some(Method::Astar),
+        _ => None,
+    }
+}
 
 // The station that every search begins at.
 const START: Station = Station { id: 0 };
@@ -35,9 +44,13 @@ impl<'a> Batch<'a> {
     {
         let cost = self
             .method
-            .seek(planner, &self.chart, START)?
+            .seek(planner, &self.chart, START)
+            .map_err(Failure::Seek)?
             .ok_or(Failure::NoRoute)?;
-        let length = planner.hand_out(nodes)?.ok_or(Failure::NoRoute)?;
+        let length = planner
+            .hand_out(nodes)
+            .map_err(Failure::HandOut)?
+            .ok_or(Failure::NoRoute)?;
         Ok(Route { cost, length })
     }
 
@@ -62,39 +75,38 @@ fn copy_out(nodes: &[Station], out: &mut [u32])
     requires { length nodes.now ≡ length out.old }
     ensures { out.new ≡ map station_key nodes.now }
 {
-    // by rank, since nothing is known of what is written through a zip
+    // By rank, since nothing is known of what is written through a `zip`.
     for (rank, place) in out.iter_mut().enumerate() {
         *place = nodes[rank].id;
     }
 }
 
-// Runs a batch over the bytes, where they are a chart, by a planner over memory of its own; the stations of the last route
-// go out as numbers.
+// Runs a batch by the search of a number over the bytes, where they are a chart, by a planner over memory of its own; the
+// stations of the last route go out as numbers. What a caller in C gives, one by one.
 pub(crate) fn search(
     heap: Global,
-    method: Method,
+    method: u32,
     bytes: &[u8],
     rows: u32,
     times: u32,
     out: &mut [u32],
 ) -> Result<Route, Failure>
-    ensures { ByChart (checked bytes.now) method bytes.now rows (length out.old) (told_of result) (take (told_of result).length out.new) }
+    ensures { TellsBatch method bytes.now rows (length out.old) (told_of result) (take (told_of result).length out.new) }
 {
-    chart::check(bytes)?;
+    let method = numbered(method).ok_or(Failure::NoMethod)?;
+    let chart = Chart::try_from(bytes).map_err(Failure::Chart)?;
     let batch = Batch {
         method,
-        chart: Chart::make(bytes),
+        chart,
         times,
     };
-    let mut memory = Memory::new(heap, START, rows as usize, 0)?;
-    // the caller's room, not the rows, limits the route
-    memory.nodes.resize(out.len(), START)?;
-    let mut planner = Planner::new(Lent {
-        rows: memory.rows.as_mut_slice(),
-        slots: memory.slots.as_mut_slice(),
-        links: memory.links.as_mut_slice(),
-    })?;
-    let nodes = memory.nodes.as_mut_slice();
+    let mut memory = Memory::with_room(heap, START, rows as usize, 0, out.len()).map_err(
+        |_| Failure::NoMemory,
+    )?;
+    let Desk {
+        mut planner,
+        out: nodes,
+    } = memory.desk().map_err(Failure::Planner)?;
     let last = batch.often(&mut planner, nodes);
     copy_out(nodes, out);
     last

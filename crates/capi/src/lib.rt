@@ -1,8 +1,7 @@
 // The planner for a caller in C or Rust: one search over a chart, run again and again by one planner.
 #![tactic(auto)]
 
-ghost use Rattle.std.specs.Prelude.{◌≡◌, length, take};
-ghost use Rattle.capi.specs.Codes.{method_numbered};
+ghost use Rattle.std.specs.Prelude.{length, take};
 ghost use Rattle.capi.specs.Tells.{Batch};
 
 mod batch;
@@ -10,21 +9,8 @@ mod route;
 pub mod told;
 
 use batch::search;
-use report::Method;
-use route::Failure;
 use std::alloc::Global;
 pub use told::Told;
-
-// The search of a number: a caller in C names it so.
-fn numbered(method: u32) -> Option<Method>
-    ensures { result ≡ method_numbered method }
-{
-    match method {
-        0 => Some(Method::Dijkstra),
-        1 => Some(Method::Astar),
-        _ => None,
-    }
-}
 
 // Runs a search (0 dijkstra, 1 astar) over the chart that stands in the bytes, from station 0, by one planner of so many
 // rows; runs it so many times, and once where that is 0. The last answer is told, with the stations of its route in the
@@ -40,8 +26,5 @@ pub fn capi_seek(
 ) -> Told
     ensures { Batch method bytes.now rows (length out.old) result (take result.length out.new) }
 {
-    match numbered(method) {
-        None => Told::from(Err(Failure::NoMethod)),
-        Some(method) => Told::from(search(heap, method, bytes, rows, times, out)),
-    }
+    Told::from(search(heap, method, bytes, rows, times, out))
 }

@@ -17,15 +17,7 @@ pub record Sizes (bytes : List ℕ) : Type 0 where
   pub whole : length bytes ≡ 16 + 16 * station_count bytes + 12 * road_count bytes
 
 pub sizes : (bytes : List ℕ) → sound bytes ≡ true → Sizes bytes
-sizes bytes ok =
-    let e = (keeps_all bytes ok).header
-    in record {
-      header = grind (arith, common_steps);
-      some = grind (arith, common_steps);
-      stations = grind (arith, common_steps);
-      roads = grind (arith, common_steps);
-      whole = grind (arith, common_steps);
-    }
+sizes bytes ok = let e = (keeps_all bytes ok).header in grind (arith, common_steps)
 
 -- the roads of a station begin no later than the last road ends
 pub first_within : (bytes : List ℕ) → sound bytes ≡ true → (k : ℕ) → k < station_count bytes → first_road bytes k ≤ road_count bytes
@@ -38,10 +30,7 @@ rises bytes ok k h = let e = (keeps_all bytes ok).stations (k + 1) h in grind (a
 -- the roads of a station end no earlier than they begin, and no later than the last road
 pub ends_within : (bytes : List ℕ) → sound bytes ≡ true → (k : ℕ) → k < station_count bytes → (first_road bytes k ≤ roads_end bytes k) × (roads_end bytes k ≤ road_count bytes)
 ends_within bytes ok k h =
-    let e = first_within bytes ok k h
-    in let f = first_within bytes ok (k + 1)
-    in let r = rises bytes ok k
-    in (grind (arith, common_steps), grind (arith, common_steps))
+    grind (arith, common_steps, first_within bytes ok k, first_within bytes ok (k + 1), rises bytes ok k)
 
 -- the zone of a station is below 64
 pub zone_within : (bytes : List ℕ) → sound bytes ≡ true → (k : ℕ) → k < station_count bytes → last_word bytes k % 256 < 64
@@ -53,21 +42,11 @@ leads_within bytes ok i h = (keeps_all bytes ok).roads i h
 
 -- a rank below the count is a road of the table
 pub rank_within : (bytes : List ℕ) → sound bytes ≡ true → (k rank : ℕ) → rank < count_in bytes k → first_road bytes k + rank < road_count bytes
-rank_within bytes ok k rank h = let w = ends_within bytes ok k in grind (arith, common_steps)
+rank_within bytes ok k rank h = grind (arith, common_steps, ends_within bytes ok k)
 
 -- the meaning of a chart's bytes
 abbrev pub meaning_in : List ℕ → Meaning
 meaning_in bytes = record { held = held_in bytes; zone = zone_in bytes; count = count_in bytes; road = road_in bytes; goal = goal_in bytes }
 
 pub chart_lawful : (bytes : List ℕ) → sound bytes ≡ true → Lawful (meaning_in bytes) (guess_in bytes)
-chart_lawful bytes ok =
-    record {
-      zones = λ k. let z = zone_within bytes ok k in grind (arith, common_steps);
-      counts = λ k. let z = sizes bytes ok in let w = ends_within bytes ok k in grind (arith, common_steps);
-      leads = λ k rank to w h. let r = rank_within bytes ok k rank in let l = leads_within bytes ok (first_road bytes k + rank) in grind (arith, common_steps);
-      past = λ k rank h. grind (arith, common_steps);
-      no_zone = λ k h. rw h;
-      no_roads = λ k h. rw h;
-      no_guess = λ k h. rw h;
-      no_goal = λ k h. rw h;
-    }
+chart_lawful bytes ok = grind (arith, common_steps, zone_within bytes ok, sizes bytes ok, ends_within bytes ok, rank_within bytes ok, leads_within bytes ok)

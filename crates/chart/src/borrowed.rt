@@ -4,11 +4,11 @@ ghost use Rattle.chart.specs.Sound.{sound};
 
 use crate::checking::check;
 use crate::refusal::ChartRefusal;
-use crate::words::word;
-use kinds::Trims;
+use crate::words::{road_count, road_record, station_count, station_record, word};
 use std::ops::Range;
 
-// A chart: bytes that the check passes, borrowed and never copied.
+// A chart: bytes that the check passes, borrowed and never copied. It is made in two calls, of which one checks and one makes, or in
+// one. A ghost field says that the check passes, since a `Copy` type with a lifetime can have no `impl Model`.
 #[derive(Clone, Copy)]
 pub struct Chart<'a> {
     pub(crate) bytes: &'a [u8],
@@ -18,7 +18,6 @@ pub struct Chart<'a> {
 impl<'a> Chart<'a> {
     ghost use Rattle.std.specs.Prelude.{◌≡◌, ◌+◌, ◌*◌, ◌<◌, ◌≤◌, cond, length, Some, None, Ok, IfSome};
     ghost use Rattle.chart.specs.Checked.{checked};
-    ghost use Rattle.chart.specs.Words.{word_at};
     ghost use Rattle.chart.specs.Format.{station_count, road_count, first_road};
     ghost use Rattle.chart.specs.Meaning.{held_in, roads_end};
 
@@ -36,7 +35,7 @@ impl<'a> Chart<'a> {
         ensures is { result ≡ cond (held_in self.now.bytes.now station) (Some (16 + 16 * station)) None }
         ensures within { IfSome result (λ at. at + 16 ≤ length self.now.bytes.now) }
     {
-        (station < word(self.bytes, 0)).then_some(16 + 16 * station as usize)
+        (station < station_count(self.bytes)).then_some(station_record(station))
     }
 
     // Where the record of a road begins.
@@ -46,19 +45,7 @@ impl<'a> Chart<'a> {
         ensures is { result ≡ 16 + 16 * station_count self.now.bytes.now + 12 * road }
         ensures within { result + 12 ≤ length self.now.bytes.now }
     {
-        16 + 16 * word(self.bytes, 0) as usize + 12 * road as usize
-    }
-
-    // The cost that stands in the eight bytes from a place on: trims, then milliseconds.
-    pub(crate) fn cost_at(&self, at: usize) -> Trims
-        requires { at + 8 ≤ length self.now.bytes.now }
-        ensures trims { result.trims ≡ word_at self.now.bytes.now at }
-        ensures millis { result.millis ≡ word_at self.now.bytes.now (at + 4) }
-    {
-        Trims {
-            trims: word(self.bytes, at),
-            millis: word(self.bytes, at + 4),
-        }
+        road_record(station_count(self.bytes), road)
     }
 
     // The roads of a station in the road table; none where there is no such station.
@@ -72,10 +59,9 @@ impl<'a> Chart<'a> {
         let Some(at) = self.station_at(station) else {
             return 0..0;
         };
-        let end = match self.station_at(station + 1) {
-            Some(next) => word(self.bytes, next),
-            None => word(self.bytes, 4),
-        };
+        let end = self
+            .station_at(station + 1)
+            .map_or(road_count(self.bytes), |next| word(self.bytes, next));
         word(self.bytes, at)..end
     }
 }

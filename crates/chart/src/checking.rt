@@ -6,7 +6,10 @@ ghost use Rattle.chart.specs.Checked.{bad_station, bad_road, checked};
 ghost use Rattle.chart.specs.Verdict.{Says};
 
 use crate::refusal::ChartRefusal;
-use crate::words::word;
+use crate::words::{
+    GOAL, MOST_ROADS, MOST_STATIONS, road_count, road_record, station_count, station_record, word,
+};
+use graph::zones::ZONES;
 
 // Whether the header and the length keep their rule.
 fn header_keeps(bytes: &[u8]) -> bool
@@ -15,20 +18,21 @@ fn header_keeps(bytes: &[u8]) -> bool
     if bytes.len() < 16 {
         return false;
     }
-    let stations = word(bytes, 0) as usize;
-    let roads = word(bytes, 4) as usize;
-    (1..=1024).contains(&stations)
-        && roads <= 4000
-        && word(bytes, 8) == 16
-        && word(bytes, 12) as usize == 16 + 16 * stations
-        && bytes.len() == 16 + 16 * stations + 12 * roads
+    let stations = station_count(bytes);
+    let roads = road_count(bytes);
+    (1..=MOST_STATIONS).contains(&stations)
+        && roads <= MOST_ROADS
+        && word(bytes, 8) as usize == station_record(0)
+        && word(bytes, 12) as usize == station_record(stations)
+        && bytes.len() == road_record(stations, roads)
 }
 
 // Whether a station's last word is a zone, or a zone and the mark of a goal.
 fn last_keeps(last: u32) -> bool
     ensures { result ≡ last_keeps last }
 {
-    last < 64 || (256..320).contains(&last)
+    let zones = ZONES as u32;
+    last < zones || (GOAL..GOAL + zones).contains(&last)
 }
 
 // Whether a station's first road is right: 0 at station 0, at any other not before that of the station before and not
@@ -37,12 +41,12 @@ fn first_keeps(bytes: &[u8], station: u32) -> bool
     requires { 32 + 16 * station ≤ length bytes.now }
     ensures { result ≡ first_keeps bytes.now station }
 {
-    let at = 16 + 16 * station as usize;
+    let at = station_record(station);
     let first = word(bytes, at);
     if station == 0 {
         return first == 0;
     }
-    (word(bytes, at - 16)..=word(bytes, 4)).contains(&first)
+    (word(bytes, at - 16)..=road_count(bytes)).contains(&first)
 }
 
 // Whether a station keeps its rule.
@@ -50,7 +54,7 @@ fn station_keeps(bytes: &[u8], station: u32) -> bool
     requires { 32 + 16 * station ≤ length bytes.now }
     ensures { result ≡ station_keeps bytes.now station }
 {
-    first_keeps(bytes, station) && last_keeps(word(bytes, 28 + 16 * station as usize))
+    first_keeps(bytes, station) && last_keeps(word(bytes, station_record(station) + 12))
 }
 
 // Whether a road keeps its rule.
@@ -58,8 +62,8 @@ fn road_keeps(bytes: &[u8], road: u32) -> bool
     requires { 28 + 16 * station_count bytes.now + 12 * road ≤ length bytes.now }
     ensures { result ≡ road_keeps bytes.now road }
 {
-    let stations = word(bytes, 0);
-    word(bytes, 16 + 16 * stations as usize + 12 * road as usize) < stations
+    let stations = station_count(bytes);
+    word(bytes, road_record(stations, road)) < stations
 }
 
 // The first station that breaks its rule.
@@ -67,7 +71,7 @@ fn bad_station(bytes: &[u8]) -> Option<u32>
     requires { header_keeps bytes.now ≡ true }
     ensures { result ≡ bad_station bytes.now }
 {
-    (0..word(bytes, 0)).find(|&station| !station_keeps(bytes, station))
+    (0..station_count(bytes)).find(|&station| !station_keeps(bytes, station))
 }
 
 // The first road that breaks its rule.
@@ -75,7 +79,7 @@ fn bad_road(bytes: &[u8]) -> Option<u32>
     requires { header_keeps bytes.now ≡ true }
     ensures { result ≡ bad_road bytes.now }
 {
-    (0..word(bytes, 4)).find(|&road| !road_keeps(bytes, road))
+    (0..road_count(bytes)).find(|&road| !road_keeps(bytes, road))
 }
 
 // Checks that the bytes are a chart: the header and the length first, then each station, then each road.

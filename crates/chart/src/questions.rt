@@ -3,7 +3,7 @@ ghost use Rattle.chart.specs.Meaning.{guess_in};
 ghost use Rattle.chart.specs.Lawful.{meaning_in, chart_lawful};
 
 use crate::borrowed::Chart;
-use crate::words::word;
+use crate::words::{GOAL, cost, word};
 use graph::{Fault, Graph};
 use kinds::{CostKind, Station, Trims};
 
@@ -23,40 +23,37 @@ impl<'a> Graph for Chart<'a> {
     }
 
     fn zone(&self, node: &Station) -> u8 {
-        match self.station_at(node.id) {
-            Some(at) => (word(self.bytes, at + 12) % 256) as u8,
-            None => 0,
-        }
+        self.station_at(node.id)
+            .map_or(0, |at| (word(self.bytes, at + 12) % GOAL) as u8)
     }
 
     #[tactic(auto, using(crate::specs::Lawful::sizes))]
     fn road_count(&self, node: &Station) -> u16 {
-        let roads = self.roads(node.id);
-        (roads.end - roads.start) as u16
+        self.roads(node.id).len() as u16
     }
 
     #[tactic(auto, using(crate::specs::Lawful::sizes))]
     fn road(&self, node: &Station, rank: u16) -> Result<Option<(Station, Trims)>, Fault> {
-        if rank >= self.road_count(node) {
+        let roads = self.roads(node.id);
+        let road = roads.start + rank as u32;
+        // With `nth` the proof does not close.
+        if !roads.contains(&road) {
             return Ok(None);
         }
-        let at = self.road_at(self.roads(node.id).start + rank as u32);
+        let at = self.road_at(road);
         let target = Station {
             id: word(self.bytes, at),
         };
-        Ok(Some((target, self.cost_at(at + 4))))
+        Ok(Some((target, cost(self.bytes, at + 4))))
     }
 
-    // A match: over a closure that asks the chart the proof does not close.
     fn guess(&self, node: &Station) -> Trims {
-        match self.station_at(node.id) {
-            Some(at) => self.cost_at(at + 4),
-            None => Trims::zero(),
-        }
+        self.station_at(node.id)
+            .map_or(Trims::zero(), |at| cost(self.bytes, at + 4))
     }
 
     fn goal(&self, node: &Station) -> bool {
         self.station_at(node.id)
-            .is_some_and(|at| word(self.bytes, at + 12) >= 256)
+            .is_some_and(|at| word(self.bytes, at + 12) >= GOAL)
     }
 }

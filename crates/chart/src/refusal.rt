@@ -21,8 +21,7 @@ impl From<ChartRefusal> for u8 {
     fn from(refusal: ChartRefusal) -> u8 {
         match refusal {
             ChartRefusal::Header => 5,
-            ChartRefusal::Station { .. } => 6,
-            ChartRefusal::Road { .. } => 6,
+            ChartRefusal::Station { .. } | ChartRefusal::Road { .. } => 6,
         }
     }
 }

@@ -1,6 +1,5 @@
 -- What holds of a layout and a map that the check passed.
-use Rattle.std.proofs.Common.{◌≡◌, ℕ, ◌*◌, true, not, List, length, get_or, None, Ok, refl, ⊎_elim, arith}
-use Rattle.std.proofs.lemmas.Bool.{not-false, cases_lt}
+use Rattle.std.proofs.Common.{◌≡◌, ℕ, ◌*◌, true, not, List, length, get_or, None, Ok, arith}
 use Rattle.std.proofs.lemmas.Grind.{common_steps}
 use Rattle.std.proofs.lemmas.List.{get_or_past}
 use Rattle.std.proofs.lemmas.List.Sums.{fails_before_first}
@@ -14,16 +13,7 @@ pub record Passed (l : Layout) (map : List ℕ) : Type 0 where
 
 -- where no byte is wrong, each stands for a cell
 all_cells : (map : List ℕ) → first_wrong map ≡ None → (i : ℕ) → is_cell (get_or map i 0) ≡ true
-all_cells map e i =
-    ⊎_elim
-    (λ h. not-false _ (fails_before_first (λ byte. not (is_cell byte)) map i 0 (grind (arith, common_steps))))
-    (λ h. let z = get_or_past map i 0 h in rw z refl)
-    (cases_lt i (length map))
+all_cells map e i = grind (arith, common_steps, fails_before_first (λ byte. not (is_cell byte)) map i 0, get_or_past map i 0)
 
 pub passed : (l : Layout) (map : List ℕ) → verdict l map ≡ Ok tt → Passed l map
-passed l map e =
-    record {
-      range = grind (arith, common_steps);
-      whole = grind (arith, common_steps);
-      cells = all_cells map (grind (arith, common_steps));
-    }
+passed l map e = grind (arith, common_steps, all_cells map)

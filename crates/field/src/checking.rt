@@ -4,15 +4,16 @@ ghost use Rattle.field.specs.Checking.{is_cell, first_wrong, verdict};
 
 use crate::layout::Layout;
 use crate::refusal::FieldRefusal;
+use graph::zones::ZONES;
 
 // The byte of a solid cell.
-pub(crate) const SOLID: u8 = 255;
+pub const SOLID: u8 = 255;
 
 // Whether the byte is a zone or solid.
 fn is_cell(byte: u8) -> bool
     ensures { result ≡ is_cell byte }
 {
-    byte < 64 || byte == SOLID
+    (byte as usize) < ZONES || byte == SOLID
 }
 
 // The first position of a byte that is neither a zone nor solid.
@@ -32,9 +33,8 @@ pub fn check(layout: Layout, map: &[u8]) -> Result<(), FieldRefusal>
     if map.len() != layout.columns as usize * layout.rows as usize {
         return Err(FieldRefusal::Length);
     }
-    // A match, since it turns `Some` into a refusal.
-    match first_wrong(map) {
-        Some(position) => Err(FieldRefusal::Byte { position }),
-        None => Ok(()),
+    if let Some(position) = first_wrong(map) {
+        return Err(FieldRefusal::Byte { position });
     }
+    Ok(())
 }

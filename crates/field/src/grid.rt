@@ -1,5 +1,5 @@
 // A field as a graph: its nodes are cells and its costs milliseconds.
-ghost use Rattle.std.specs.Prelude.{◌≡◌, ℕ, ◌*◌, true, cond, length, Some, None, Ok, slice_index, option_map};
+ghost use Rattle.std.specs.Prelude.{◌≡◌, ℕ, ◌*◌, true, cond, length, Some, None, Ok, Err, slice_index, option_map, IfOk, MatchResult};
 ghost use Rattle.graph.specs.Answers.{road_of};
 ghost use Rattle.graph.specs.Meaning.{closed};
 ghost use Rattle.graph.specs.Routes.{True};
@@ -9,12 +9,15 @@ ghost use Rattle.field.specs.Cells.{byte_at, inside, held_at, beside, road_at, g
 ghost use Rattle.field.specs.Means.{field_meaning, field_guess};
 ghost use Rattle.field.specs.Laws.{field_lawful, few_columns};
 
-use crate::checking::SOLID;
+use crate::checking::{SOLID, check};
 use crate::layout::Layout;
+use crate::refusal::FieldRefusal;
 use graph::{Fault, Graph};
 use kinds::{Cell, CostKind, Millis};
 
-// A layout with a map that has one byte a cell, row by row: a zone (0 to 63) or solid (255).
+// A layout with a map that has one byte a cell, row by row: a zone (0 to 63) or solid (255). It is made in two calls, of which one
+// checks and one makes, or in one. Ghost fields say what the check passes, since a `Copy` type with a lifetime can have no
+// `impl Model`.
 #[derive(Clone, Copy)]
 pub struct Field<'a> {
     layout: Layout,
@@ -26,6 +29,7 @@ pub struct Field<'a> {
 
 impl<'a> Field<'a> {
     // The field of a layout and a map that the check passed. Its guess is true.
+    #[tactic(auto, using(crate::proofs::Passed::passed, crate::proofs::Ahead::passed_true))]
     pub fn make(layout: Layout, map: &'a [u8]) -> Field<'a>
         requires { verdict layout map.now ≡ Ok tt }
         ensures plan { result.layout ≡ layout }
@@ -33,6 +37,15 @@ impl<'a> Field<'a> {
         ensures truth { True (field_meaning result.layout result.map.now) (field_guess result.layout result.map.now) }
     {
         Field { layout, map }
+    }
+
+    // The same, where the check passes them; or why it does not.
+    pub fn new(layout: Layout, map: &'a [u8]) -> Result<Field<'a>, FieldRefusal>
+        ensures made { MatchResult result (λ field. (verdict layout map.now ≡ Ok tt) × (field.layout ≡ layout) × (field.map.now ≡ map.now)) (λ refusal. verdict layout map.now ≡ Err refusal) }
+        ensures truth { IfOk result (λ field. True (field_meaning field.layout field.map.now) (field_guess field.layout field.map.now)) }
+    {
+        check(layout, map)?;
+        Ok(Field::make(layout, map))
     }
 
     // The zone of a cell that is held: of one inside that is not solid.
@@ -111,6 +124,7 @@ impl<'a> Graph for Field<'a> {
         if self.held(node) { 4 } else { 0 }
     }
 
+    #[tactic(auto, using(crate::specs::Laws::column_of_key, crate::specs::Laws::row_of_key))]
     fn road(&self, node: &Cell, rank: u16) -> Result<Option<(Cell, Millis)>, Fault> {
         Ok(self.step(*node, rank))
     }

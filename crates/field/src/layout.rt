@@ -13,6 +13,13 @@ pub struct Layout {
     pub target: Cell,
 }
 
+// The most columns, rows and milliseconds a step.
+const MOST_COLUMNS: u16 = 256;
+
+const MOST_ROWS: u16 = 128;
+
+const LONGEST_STEP: u32 = 1000;
+
 impl Layout {
     ghost use Rattle.field.specs.Cells.{inside};
     ghost use Rattle.field.specs.Checking.{in_range};
@@ -28,9 +35,9 @@ impl Layout {
     pub(crate) fn is_in_range(&self) -> bool
         ensures { result ≡ in_range self.now }
     {
-        (1..=256).contains(&self.columns)
-            && (1..=128).contains(&self.rows)
-            && (1..=1000).contains(&self.step)
+        (1..=MOST_COLUMNS).contains(&self.columns)
+            && (1..=MOST_ROWS).contains(&self.rows)
+            && (1..=LONGEST_STEP).contains(&self.step)
             && self.contains(self.target)
     }
 }

@@ -6,7 +6,7 @@ pub mod grid;
 pub mod layout;
 pub mod refusal;
 
-pub use checking::check;
+pub use checking::{SOLID, check};
 pub use grid::Field;
 pub use layout::Layout;
 pub use refusal::FieldRefusal;

@@ -30,6 +30,7 @@ impl From<FieldRefusal> for u8 {
     }
 }
 
+// By hand: what a derive writes has no contract.
 impl fmt::Display for FieldRefusal {
     ghost use Rattle.field.specs.Checking.{message_of};
 

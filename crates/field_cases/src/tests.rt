@@ -1,5 +1,5 @@
 // What small fields answer, alone and under fences and tolls.
-ghost use Rattle.std.specs.Prelude.{◌≡◌, ℕ, ◌<◌, true, false, replicate, slice_set};
+ghost use Rattle.std.specs.Prelude.{ℕ};
 ghost use Rattle.kinds.specs.Kind.{kind};
 ghost use Rattle.graph.specs.Meaning.{Meaning};
 ghost use Rattle.graph.specs.Routes.{True};
@@ -7,7 +7,7 @@ ghost use Rattle.graph.specs.Pile.{Pile};
 
 use field::{Field, FieldRefusal, Layout};
 use graph::piles::piles_keep_truth;
-use graph::{Fault, Fence, Graph, Toll};
+use graph::{Fault, Fence, Graph, Toll, only};
 use kinds::{Cell, CostKind, Millis};
 use std::test::Fail;
 
@@ -19,16 +19,6 @@ fn row() -> Layout {
         step: 10,
         target: Cell { column: 2, row: 0 },
     }
-}
-
-// The table with this zone alone. The trials have one of their own: no crate below both is for tests.
-fn only(zone: u8) -> [bool; 64]
-    requires { zone < 64 }
-    ensures { result ≡ slice_set (replicate 64 false) zone true }
-{
-    let mut table = [false; 64];
-    table[zone as usize] = true;
-    table
 }
 
 // The road from the first cell to the right.
@@ -59,8 +49,7 @@ fn byte_64_is_refused_with_its_position(rt: HostRuntime) {
 #[test]
 fn solid_target_is_no_goal(rt: HostRuntime) -> Result<(), Fail> {
     let (layout, map) = (row(), [0, 7, 255]);
-    field::check(layout, &map)?;
-    assert!(rt; !Field::make(layout, &map).goal(&layout.target));
+    assert!(rt; !Field::new(layout, &map)?.goal(&layout.target));
     Ok(())
 }
 
@@ -68,8 +57,7 @@ fn solid_target_is_no_goal(rt: HostRuntime) -> Result<(), Fail> {
 fn fence_bars_the_start(rt: HostRuntime) -> Result<(), Fail> {
     let start = Cell { column: 0, row: 0 };
     let (layout, map) = (row(), [7, 0, 0]);
-    field::check(layout, &map)?;
-    let field = Field::make(layout, &map);
+    let field = Field::new(layout, &map)?;
     assert!(rt; field.held(&start));
     let fence = Fence::new(field, only(7));
     assert!(rt; !fence.held(&start));
@@ -79,8 +67,7 @@ fn fence_bars_the_start(rt: HostRuntime) -> Result<(), Fail> {
 #[test]
 fn toll_is_added_on_the_way_in(rt: HostRuntime) -> Result<(), Fail> {
     let (layout, map) = (row(), [0, 7, 0]);
-    field::check(layout, &map)?;
-    let toll = Toll::new(Field::make(layout, &map), Millis { millis: 5 }, only(7));
+    let toll = Toll::new(Field::new(layout, &map)?, Millis { millis: 5 }, only(7));
     let cost = right(&toll)?.map(|(_, cost)| cost);
     assert_eq!(rt; cost, Some(Millis { millis: 15 }));
     Ok(())
@@ -89,9 +76,8 @@ fn toll_is_added_on_the_way_in(rt: HostRuntime) -> Result<(), Fail> {
 #[test]
 fn fault_rises_through_three_layers(rt: HostRuntime) -> Result<(), Fail> {
     let (layout, map) = (row(), [0, 7, 0]);
-    field::check(layout, &map)?;
     let toll = Toll::new(
-        Field::make(layout, &map),
+        Field::new(layout, &map)?,
         Millis { millis: u32::MAX },
         only(7),
     );
@@ -106,9 +92,8 @@ fn fault_rises_through_three_layers(rt: HostRuntime) -> Result<(), Fail> {
 #[test]
 fn guess_stays_true_under_a_pile(rt: HostRuntime) -> Result<(), Fail> {
     let (layout, map) = (row(), [0, 7, 0]);
-    field::check(layout, &map)?;
     let pile = Toll::new(
-        Fence::new(Field::make(layout, &map), only(1)),
+        Fence::new(Field::new(layout, &map)?, only(1)),
         Millis { millis: 5 },
         only(7),
     );

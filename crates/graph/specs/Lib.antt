@@ -2,7 +2,6 @@ pub mod Meaning
 pub mod Answers
 pub mod Routes
 pub mod Unguided
-pub mod Opened
 pub mod Deeper
 pub mod Fenced
 pub mod Tolled

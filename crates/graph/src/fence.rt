@@ -5,26 +5,26 @@ ghost use Rattle.graph.specs.Layers.{fenced_lawful};
 
 use crate::fault::Fault;
 use crate::questions::Graph;
-use crate::zones::zone_in;
+use crate::zones::{Zones, zone_in};
 use kinds::{CostKind, NodeKind};
 
 // The graph below without the keys whose zone is barred, and without the roads to them.
 #[derive(Drop)]
 pub struct Fence<G> {
     below: G,
-    barred: [bool; 64],
+    barred: Zones,
 }
 
 impl<G: Graph> Fence<G> {
     // The graph under a fence that bars these zones.
-    pub fn new(below: G, barred: [bool; 64]) -> Fence<G>
+    pub fn new(below: G, barred: Zones) -> Fence<G>
         ensures over { result.below ≡ below }
         ensures table { result.barred ≡ barred }
     {
         Fence { below, barred }
     }
 
-    // Whether the node's zone is barred.
+    // Whether the node's zone is barred: a name for what all six answers ask.
     fn bars(&self, node: &G::Node) -> bool
         ensures { result ≡ bars self.now.barred (G.means self.now.below) (G.Node.key node.now) }
     {

@@ -7,10 +7,11 @@ pub mod piles;
 pub mod questions;
 pub mod toll;
 pub mod unguided;
-mod zones;
+pub mod zones;
 
 pub use fault::Fault;
 pub use fence::Fence;
 pub use questions::Graph;
 pub use toll::Toll;
 pub use unguided::Unguided;
+pub use zones::{Zones, only};

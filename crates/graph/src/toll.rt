@@ -1,12 +1,12 @@
 // A toll over a graph.
 ghost use Rattle.std.specs.Prelude.{◌≡◌, ℕ, Bool};
 ghost use Rattle.graph.specs.Answers.{road_of};
-ghost use Rattle.graph.specs.Tolled.{charges, dearer, tolled};
+ghost use Rattle.graph.specs.Tolled.{dearer, tolled};
 ghost use Rattle.graph.specs.Layers.{tolled_lawful};
 
 use crate::fault::Fault;
 use crate::questions::Graph;
-use crate::zones::zone_in;
+use crate::zones::{Zones, zone_in};
 use kinds::{CostKind, NodeKind};
 
 // The graph below with one cost added to every open road that leads into a charged zone.
@@ -14,12 +14,12 @@ use kinds::{CostKind, NodeKind};
 pub struct Toll<G, C> {
     below: G,
     cost: C,
-    charged: [bool; 64],
+    charged: Zones,
 }
 
 impl<C: CostKind, G: Graph<Cost = C>> Toll<G, C> {
     // The graph under a toll of this cost on these zones.
-    pub fn new(below: G, cost: C, charged: [bool; 64]) -> Toll<G, C>
+    pub fn new(below: G, cost: C, charged: Zones) -> Toll<G, C>
         ensures over { result.below ≡ below }
         ensures price { result.cost ≡ cost }
         ensures table { result.charged ≡ charged }
@@ -31,14 +31,7 @@ impl<C: CostKind, G: Graph<Cost = C>> Toll<G, C> {
         }
     }
 
-    // Whether the node's zone is charged.
-    fn charges(&self, node: &G::Node) -> bool
-        ensures { result ≡ charges self.now.charged (G.means self.now.below) (G.Node.key node.now) }
-    {
-        zone_in(&self.charged, &self.below, node)
-    }
-
-    // The open road of a rank to a node with the toll added to its cost.
+    // The open road of a rank to a node with the toll added to its cost: a function of its own, so that one answer proves it.
     fn dearer(&self, rank: u16, to: G::Node, cost: C) -> Result<Option<(G::Node, C)>, Fault>
         ensures { road_of G.Node.key C.weight result ≡ dearer C.kind (C.weight self.now.cost) rank (G.Node.key to) (C.weight cost) }
     {
@@ -74,7 +67,7 @@ impl<C: CostKind, G: Graph<Cost = C>> Graph for Toll<G, C> {
         let Some((to, cost)) = self.below.road(node, rank).map_err(Fault::passed_up)? else {
             return Ok(None);
         };
-        if self.charges(&to) {
+        if zone_in(&self.charged, &self.below, &to) {
             return self.dearer(rank, to, cost);
         }
         Ok(Some((to, cost)))

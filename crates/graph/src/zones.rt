@@ -1,11 +1,29 @@
 // Tables of the zones.
-ghost use Rattle.std.specs.Prelude.{◌≡◌, ℕ, Bool, false, slice_index_or};
+ghost use Rattle.std.specs.Prelude.{◌≡◌, ℕ, Bool, true, false, if◌then◌else◌, nat_lt, replicate, slice_index_or, slice_set};
 
 use crate::questions::Graph;
 use kinds::NodeKind;
 
+// How many zones there are.
+pub const ZONES: usize = 64;
+
+// A table that has a zone or not.
+pub type Zones = [bool; ZONES];
+
+// The table that has this zone and no other; it has none where the number is none of a zone.
+pub fn only(zone: u8) -> Zones
+    ensures { result ≡ (if nat_lt zone 64 then slice_set (replicate 64 false) zone true else replicate 64 false) }
+{
+    let mut table = [false; ZONES];
+    let zone = zone as usize;
+    if zone < ZONES {
+        table[zone] = true;
+    }
+    table
+}
+
 // Whether a table has the zone of a node.
-pub(crate) fn zone_in<G: Graph>(table: &[bool; 64], graph: &G, node: &G::Node) -> bool
+pub(crate) fn zone_in<G: Graph>(table: &Zones, graph: &G, node: &G::Node) -> bool
     ensures { result ≡ slice_index_or table.now ((G.means graph.now).zone (G.Node.key node.now)) false }
 {
     table[graph.zone(node) as usize]

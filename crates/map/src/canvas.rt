@@ -8,7 +8,7 @@ use crate::signs::sign_of;
 use kinds::Cell;
 use std::alloc::{AllocError, Global};
 
-// The signs of cells, row by row, in rows of so many columns.
+// The signs of cells, row by row, in rows of so many columns, which stay as the signs are drawn over.
 #[derive(Drop)]
 pub struct Canvas {
     pub columns: u16,

@@ -1,9 +1,7 @@
 // A field as it was drawn.
 use field::Layout;
+use graph::Zones;
 use kinds::{Cell, Millis};
-
-// Which zones are meant.
-pub type Zones = [bool; 64];
 
 // A cost, and the zones that it is asked for.
 #[derive(Clone, Copy)]

@@ -4,10 +4,11 @@ ghost use Rattle.std.specs.Option.{option_map};
 ghost use Rattle.map.specs.Words.{words};
 ghost use Rattle.map.specs.Headers.{size_of, cell_of, zone_of, zones_of, toll_of, SaysHeader, LacksHeader};
 
-use crate::drawing::{Charge, Zones};
+use crate::drawing::Charge;
 use crate::mistake::Mistake;
 use crate::signs::byte_of;
 use crate::words::Words;
+use graph::zones::{ZONES, Zones};
 use kinds::{Cell, Millis};
 use std::str::FromStr;
 
@@ -60,7 +61,7 @@ fn zone_of(word: &str) -> Option<u8>
 {
     let mut signs = word.chars();
     let byte = byte_of(signs.next()?)?;
-    if byte >= 64 || signs.next().is_some() {
+    if byte as usize >= ZONES || signs.next().is_some() {
         return None;
     }
     Some(byte)
@@ -70,7 +71,7 @@ fn zone_of(word: &str) -> Option<u8>
 fn zones_line(words: Words) -> Option<Zones>
     ensures { result ≡ zones_of words.entry }
 {
-    let mut zones = [false; 64];
+    let mut zones = [false; ZONES];
     for word in words {
         zones[zone_of(word)? as usize] = true;
     }

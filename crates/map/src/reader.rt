@@ -3,11 +3,12 @@ ghost use Rattle.std.specs.Prelude.{◌≡◌, MatchOption};
 ghost use Rattle.map.specs.Rows.{ReadsRow};
 ghost use Rattle.map.specs.Headings.{plan_of, TakesHeader};
 
-use crate::drawing::{Charge, Drawing, Plan, Zones};
+use crate::drawing::{Charge, Drawing, Plan};
 use crate::header::{Header, Size};
 use crate::mistake::{Mistake, Problem};
 use crate::signs::byte_of;
 use field::Layout;
+use graph::Zones;
 use kinds::Cell;
 use std::alloc::Global;
 use std::iter::Zip;
@@ -68,7 +69,7 @@ impl Heading {
             Header::Target(cell) => keep(&mut self.target, cell)?,
             Header::Fence(zones) => keep(&mut self.fence, zones)?,
             Header::Toll(charge) => keep(&mut self.toll, charge)?,
-            Header::Map => return Ok(Some(self.plan().ok_or(Mistake::Early)?)),
+            Header::Map => return self.plan().map(Some).ok_or(Mistake::Early),
         }
         Ok(None)
     }
@@ -106,15 +107,16 @@ fn add_row(map: &mut Vec<u8>, columns: u16, line: &str) -> Result<(), Mistake>
 
 // The drawing that a text is, or the first problem with it.
 pub fn read(heap: Global, text: &str) -> Result<Drawing, Problem> {
-    let after_last = text.lines().count().saturating_add(1);
+    // The line that is missing where the text ends early.
+    let after_last = || text.lines().count().saturating_add(1);
     let mut lines = text.lines().zip(1..=usize::MAX);
-    let plan = read_plan(&mut lines)?.ok_or(Mistake::NoMap.at(after_last))?;
+    let plan = read_plan(&mut lines)?.ok_or_else(|| Mistake::NoMap.at(after_last()))?;
     let Layout { columns, rows, .. } = plan.layout;
     let mut map = Vec::new(heap);
     for found in 0..rows {
         let (line, number) = lines
             .next()
-            .ok_or(Mistake::Short { rows, found }.at(after_last))?;
+            .ok_or_else(|| Mistake::Short { rows, found }.at(after_last()))?;
         add_row(&mut map, columns, line).map_err(|mistake| mistake.at(number))?;
     }
     for (line, number) in lines {

@@ -4,17 +4,17 @@ ghost use Rattle.std.specs.Prelude.{◌≡◌, ◌<◌, false, replicate, unwrap
 use crate::canvas::{Canvas, text_of};
 use crate::drawing::{Charge, Drawing, Plan};
 use field::Field;
+use graph::zones::ZONES;
 use graph::{Fault, Fence, Toll};
 use kinds::{Cell, CostKind, Millis};
-use report::Method;
-use report::memory::{Desk, Memory};
+use report::{Desk, Found, Memory, Method, Route};
 use search::SeekRefusal;
 use std::fmt;
 
 // A field under a fence and a toll.
 type Pile<'a> = Toll<Fence<Field<'a>>, Millis>;
 
-// A refusal of a search in words.
+// A refusal of a search in words, which are those of this program: what it calls a toll another graph may not have.
 #[derive(Clone, Copy)]
 struct Reason(SeekRefusal);
 
@@ -54,7 +54,7 @@ fn pile<'a>(field: Field<'a>, plan: &Plan) -> Pile<'a>
     ensures toll { MatchOption plan.now.toll (result.cost.millis ≡ 0) (λ toll. result.cost ≡ toll.cost) }
     ensures charged { MatchOption plan.now.toll (result.charged ≡ replicate 64 false) (λ toll. result.charged ≡ toll.zones) }
 {
-    let nowhere = [false; 64];
+    let nowhere = [false; ZONES];
     let toll = plan.toll.unwrap_or(Charge {
         cost: Millis::zero(),
         zones: nowhere,
@@ -77,8 +77,8 @@ struct Survey<'a, R> {
 
 impl<R: Print + AllocGlobal> Survey<'_, R> {
     // Prints a route with its cost.
-    fn print_route(&self, name: &str, cost: Millis, route: &[Cell]) -> anyhow::Result<()> {
-        println!(self.rt; "{name} {cost}")?;
+    fn print_route(&self, found: Found<Millis>, route: &[Cell]) -> anyhow::Result<()> {
+        println!(self.rt; "{found}")?;
         let canvas = Canvas::draw(self.rt.alloc(), self.drawing, route)?;
         for row in canvas.signs.chunks(canvas.columns as usize) {
             self.rt.println(text_of(self.rt.alloc(), row)?)?;
@@ -88,23 +88,18 @@ impl<R: Print + AllocGlobal> Survey<'_, R> {
 
     // Runs one search, and prints what it came to.
     fn report(&self, method: Method, desk: &mut Desk<Cell, Millis>) -> anyhow::Result<()> {
-        let name = method.name();
         let cost = match method.seek(&mut desk.planner, &self.pile, self.drawing.plan.start) {
             Ok(Some(cost)) => cost,
-            Ok(None) => return Ok(println!(self.rt; "{name} none")?),
+            Ok(None) => return Ok(println!(self.rt; "{method} none")?),
             Err(refusal) => {
-                let number = u8::from(refusal);
                 let reason = Reason(refusal);
-                return Ok(println!(self.rt; "{name} refused {number}: {reason}")?);
+                return Ok(println!(self.rt; "{method} refused {}: {reason}", u8::from(refusal))?);
             }
         };
-        match desk.planner.hand_out(desk.out) {
-            Ok(Some(length)) => self.print_route(name, cost, &desk.out[..length]),
+        match Route::next(&mut desk.planner, desk.out) {
+            Ok(Some(route)) => self.print_route(Found { method, cost }, route.nodes),
             Ok(None) => Ok(()),
-            Err(refusal) => {
-                let number = u8::from(refusal);
-                Ok(println!(self.rt; "{name} refused {number}")?)
-            }
+            Err(refusal) => Ok(println!(self.rt; "{method} refused {}", u8::from(refusal))?),
         }
     }
 }
@@ -113,22 +108,21 @@ impl<R: Print + AllocGlobal> Survey<'_, R> {
 pub fn run<R: Print + AllocGlobal>(rt: &R, drawing: &Drawing) -> anyhow::Result<()> {
     let layout = drawing.plan.layout;
     let map = drawing.map.as_slice();
-    if let Err(refusal) = field::check(layout, map) {
-        let number = u8::from(refusal);
-        return Ok(println!(rt; "field refused {number}: {refusal}")?);
-    }
+    let field = match Field::new(layout, map) {
+        Ok(field) => field,
+        Err(refusal) => {
+            return Ok(println!(rt; "field refused {}: {refusal}", u8::from(refusal))?);
+        }
+    };
     let mut memory = Memory::new(rt.alloc(), Cell { column: 0, row: 0 }, map.len(), 0)?;
     let mut desk = match memory.desk() {
         Ok(desk) => desk,
-        Err(refusal) => {
-            let number = u8::from(refusal);
-            return Ok(println!(rt; "planner refused {number}")?);
-        }
+        Err(refusal) => return Ok(println!(rt; "planner refused {}", u8::from(refusal))?),
     };
     let survey = Survey {
         rt,
         drawing,
-        pile: pile(Field::make(layout, map), &drawing.plan),
+        pile: pile(field, &drawing.plan),
     };
     for method in Method::ALL {
         survey.report(method, &mut desk)?;

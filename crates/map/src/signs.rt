@@ -2,13 +2,15 @@
 ghost use Rattle.std.specs.Prelude.{◌≡◌, IfSome};
 ghost use Rattle.map.specs.Signs.{byte_of, sign_of};
 
-// The map's byte of a sign: a zone, or 255 for a solid cell. The sign of that byte is the sign.
+use field::SOLID;
+
+// The map's byte of a sign: a zone, or that of a solid cell. The sign of that byte is the sign.
 pub fn byte_of(sign: char) -> Option<u8>
     ensures value { result ≡ byte_of sign }
     ensures back { IfSome result (λ byte. sign_of byte ≡ sign) }
 {
     match sign {
-        '#' => Some(255),
+        '#' => Some(SOLID),
         '.' => Some(0),
         '1'..='9' => Some(sign as u8 - b'0'),
         'a'..='z' => Some(sign as u8 - b'a' + 10),

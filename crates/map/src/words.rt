@@ -57,9 +57,6 @@ impl<'a> Words<'a> {
     pub fn end(mut self) -> Option<()>
         ensures { IsSome result ↔ (self.entry ≡ []) }
     {
-        if self.next().is_some() {
-            return None;
-        }
-        Some(())
+        self.next().is_none().then_some(())
     }
 }

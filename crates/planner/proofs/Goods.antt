@@ -1,7 +1,8 @@
 -- What a write of the register, and what a pop and a push of the heap keep.
 use Rattle.std.proofs.Common.{◌≡◌, ℕ, ◌+◌, ◌<◌, ◌≤◌, List, [], ◌∷◌, ◌++◌, length, get_or, set, ap, ◌∙◌, subst, sym, Some, Option, arith, length-append, length-set}
 use Rattle.std.proofs.lemmas.List.{length-map}
-use Rattle.store.specs.Queue.{Waiting, without, first_out}
+use Rattle.store.specs.declared.slots.Waiting.{Waiting}
+use Rattle.store.specs.Queue.{without, first_out}
 use Rattle.store.specs.Rows.{number_of}
 use Rattle.store.specs.Registers.{Listing}
 use Rattle.store.specs.Heaps.{Waits}
@@ -79,10 +80,10 @@ moved key weight r r' h h' e q l =
     }
 
 -- what comes first is a row in use, and without it the rest is as before
-pub first_in : {N C : Type 0} (weight : C → ℕ) (r : Listing N (Reached C)) (h : Waits C) {x : Waiting C} → Good r h → Some x ≡ first_out weight h.waits → x.0 < length r.listed
+pub first_in : {N C : Type 0} (weight : C → ℕ) (r : Listing N (Reached C)) (h : Waits C) {x : Waiting C} → Good r h → Some x ≡ first_out weight h.waits → x.row < length r.listed
 first_in weight r h {x} v e = below_first weight (length r.listed) h.waits x v.waiting (sym e)
 
-pub first_in_rows : {N C : Type 0} (key : N → ℕ) (weight : C → ℕ) (r : Listing N (Reached C)) (h : Waits C) {x : Waiting C} → Good r h → Some x ≡ first_out weight h.waits → x.0 < length (rows_of key weight r.listed)
+pub first_in_rows : {N C : Type 0} (key : N → ℕ) (weight : C → ℕ) (r : Listing N (Reached C)) (h : Waits C) {x : Waiting C} → Good r h → Some x ≡ first_out weight h.waits → x.row < length (rows_of key weight r.listed)
 first_in_rows key weight r h v e = omega (arith, length-map r.listed (row_of key weight), first_in weight r h v e)
 
 pub popped : {N C : Type 0} (weight : C → ℕ) (r : Listing N (Reached C)) (h h' : Waits C) (j : ℕ) → Good r h → h'.rows ≡ h.rows → h'.waits ≡ without j h.waits → Good r h'

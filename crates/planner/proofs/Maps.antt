@@ -3,7 +3,8 @@ use Rattle.std.specs.Option.{option_map}
 use Rattle.std.proofs.Common.{◌≡◌, ℕ, zero, suc, ◌+◌, ◌<◌, ◌≤◌, Bool, true, false, cond, eqb, List, [], ◌∷◌, ◌++◌, map, length, get_or, set, Some, None, Option, sym, refl, ap, ◌∙◌, subst, arith}
 use Rattle.std.proofs.lemmas.Bool.{eqb-true}
 use Rattle.store.specs.Rows.{number_of, later as later₀}
-use Rattle.store.specs.Queue.{Waiting, without as without₀, first_out as firstOut₀, sooner as sooner₀, overtakes as overtakes₀}
+use Rattle.store.specs.declared.slots.Waiting.{Waiting}
+use Rattle.store.specs.Queue.{without as without₀, first_out as firstOut₀, sooner as sooner₀, overtakes as overtakes₀}
 use Rattle.search.specs.Rows.{find, later}
 use Rattle.search.specs.Queue.{without, first_out, sooner}
 use Rattle.planner.specs.declared.frontier.Reached.{Reached}
@@ -47,8 +48,8 @@ module _ {C : Type 0} (weight : C → ℕ) where
   pub without_entries : (j : ℕ) (q : List (Waiting C)) → without j (entries_of weight q) ≡ entries_of weight (without₀ j q)
   without_entries j [] = refl
   without_entries j (x ∷ q) =
-      ap (λ t. cond (eqb x.0 j) t (entry_of weight x ∷ t)) (without_entries j q)
-      ∙ sym (map_cond (entry_of weight) (eqb x.0 j) (without₀ j q) (x ∷ without₀ j q))
+      ap (λ t. cond (eqb x.row j) t (entry_of weight x ∷ t)) (without_entries j q)
+      ∙ sym (map_cond (entry_of weight) (eqb x.row j) (without₀ j q) (x ∷ without₀ j q))
 
   option_cond : (b : Bool) (x y : Waiting C) → entry_of weight (cond b y x) ≡ cond b (entry_of weight y) (entry_of weight x)
   option_cond true x y = refl
@@ -68,26 +69,26 @@ module _ {C : Type 0} (weight : C → ℕ) where
 
   pub below_without : (n j : ℕ) (q : List (Waiting C)) → Below n q → Below n (without₀ j q)
   below_without n j [] b = tt
-  below_without n j (x ∷ q) b = go (eqb x.0 j) (below_without n j q b.1)
+  below_without n j (x ∷ q) b = go (eqb x.row j) (below_without n j q b.1)
     where
       go : (t : Bool) → Below n (without₀ j q) → Below n (cond t (without₀ j q) (x ∷ without₀ j q))
       go true r = r
       go false r = (b.0, r)
 
-  pub below_push : (n : ℕ) (q : List (Waiting C)) (x : Waiting C) → Below n q → x.0 < n → Below n (q ++ x ∷ [])
+  pub below_push : (n : ℕ) (q : List (Waiting C)) (x : Waiting C) → Below n q → x.row < n → Below n (q ++ x ∷ [])
   below_push n [] x b h = (h, tt)
   below_push n (y ∷ q) x b h = (b.0, below_push n q x b.1 h)
 
-  pub below_first : (n : ℕ) (q : List (Waiting C)) (x : Waiting C) → Below n q → firstOut₀ weight q ≡ Some x → x.0 < n
+  pub below_first : (n : ℕ) (q : List (Waiting C)) (x : Waiting C) → Below n q → firstOut₀ weight q ≡ Some x → x.row < n
   below_first n [] x b e = cc
   below_first n (y ∷ q) x b e = go (firstOut₀ weight q) (λ z f. below_first n q z b.1 f) e
     where
-      pick : (t : Bool) (z : Waiting C) → z.0 < n → cond t z y ≡ x → x.0 < n
-      pick true z h e = subst (λ (v : Waiting C). v.0 < n) e h
-      pick false z h e = subst (λ (v : Waiting C). v.0 < n) e b.0
+      pick : (t : Bool) (z : Waiting C) → z.row < n → cond t z y ≡ x → x.row < n
+      pick true z h e = subst (λ (v : Waiting C). v.row < n) e h
+      pick false z h e = subst (λ (v : Waiting C). v.row < n) e b.0
 
-      go : (o : Option (Waiting C)) → ((z : Waiting C) → o ≡ Some z → z.0 < n) → sooner₀ weight y o ≡ Some x → x.0 < n
-      go None f e = let q : y ≡ x = cc in subst (λ (v : Waiting C). v.0 < n) q b.0
+      go : (o : Option (Waiting C)) → ((z : Waiting C) → o ≡ Some z → z.row < n) → sooner₀ weight y o ≡ Some x → x.row < n
+      go None f e = let q : y ≡ x = cc in subst (λ (v : Waiting C). v.row < n) q b.0
       go (Some z) f e = pick (overtakes₀ weight z y) z (f z refl) (cc)
 
 module _ {N C : Type 0} where

@@ -3,7 +3,8 @@ use Rattle.std.specs.Option.{option_map}
 use Rattle.std.proofs.lemmas.List.{get_or-map}
 use Rattle.std.proofs.Common.{◌≡◌, ℕ, zero, suc, ◌+◌, ◌<◌, Bool, true, false, List, length, get_or, Some, None, Option, sym, refl, ap, ◌∙◌, arith}
 use Rattle.kinds.specs.Kind.{Kind}
-use Rattle.store.specs.Queue.{Waiting, without as without₀, first_out as first_out₀}
+use Rattle.store.specs.declared.slots.Waiting.{Waiting}
+use Rattle.store.specs.Queue.{without as without₀, first_out as first_out₀}
 use Rattle.store.specs.Registers.{Listing}
 use Rattle.store.specs.Heaps.{Waits}
 use Rattle.graph.specs.Meaning.{Meaning}
@@ -49,29 +50,29 @@ row_is {N} {C} key w l j n v h en ev =
     ∙ ap (λ (x : Reached C). row_of key w (n, x)) (sym (ev d))
 
 -- a turn that takes an entry out: x, of the node n and what v says of how it was reached
-module _ {N C : Type 0} (key : N → ℕ) (w : C → ℕ) (K : Kind) (M : Meaning) (guess : ℕ → ℕ) (r : Listing N (Reached C)) (h : Waits C) (x : Waiting C) (n : N) (v : Reached C) (good : Good r h) (first : Some x ≡ first_out₀ w h.waits) (en : (d : N × Reached C) → n ≡ (get_or r.listed x.0 d).0) (ev : (d : N × Reached C) → v ≡ (get_or r.listed x.0 d).1) where
+module _ {N C : Type 0} (key : N → ℕ) (w : C → ℕ) (K : Kind) (M : Meaning) (guess : ℕ → ℕ) (r : Listing N (Reached C)) (h : Waits C) (x : Waiting C) (n : N) (v : Reached C) (good : Good r h) (first : Some x ≡ first_out₀ w h.waits) (en : (d : N × Reached C) → n ≡ (get_or r.listed x.row d).0) (ev : (d : N × Reached C) → v ≡ (get_or r.listed x.row d).1) where
   abbrev before : State
   before = (standing key w r h).state
 
   abbrev row : Row
   row = record { key = key n; cost = w v.cost; parent = v.parent }
 
-  turns_to : (b : Bool) → b ≡ M.goal (key n) → turn K M guess r.room (first_out (entries_of w h.waits)) before ≡ taken K M guess r.room b x.0 row before
+  turns_to : (b : Bool) → b ≡ M.goal (key n) → turn K M guess r.room (first_out (entries_of w h.waits)) before ≡ taken K M guess r.room b x.row row before
   unfolding turn
   turns_to b e =
       ap (λ (o : Option Entry). turn K M guess r.room o before) (first_entries w h.waits ∙ ap (option_map (entry_of w)) (sym first))
-      ∙ ap (λ (y : Row). taken K M guess r.room (M.goal y.key) x.0 y before) (row_is key w r.listed x.0 n v (first_in w r h good first) en ev)
-      ∙ ap (λ (t : Bool). taken K M guess r.room t x.0 row before) (sym e)
+      ∙ ap (λ (y : Row). taken K M guess r.room (M.goal y.key) x.row y before) (row_is key w r.listed x.row n v (first_in w r h good first) en ev)
+      ∙ ap (λ (t : Bool). taken K M guess r.room t x.row row before) (sym e)
 
-  pub turn_goal : true ≡ M.goal (key n) → turn K M guess r.room (first_out (entries_of w h.waits)) before ≡ done (found (w v.cost) (route_to (rows_of key w r.listed) x.0))
+  pub turn_goal : true ≡ M.goal (key n) → turn K M guess r.room (first_out (entries_of w h.waits)) before ≡ done (found (w v.cost) (route_to (rows_of key w r.listed) x.row))
   unfolding taken
   turn_goal e = turns_to true e
 
-  pub turn_more : (q : List (Waiting C)) (y : Result) → false ≡ M.goal (key n) → q ≡ without₀ x.0 h.waits
-      → y ≡ along K M guess r.room x.0 (key n) (w v.cost) (M.count (key n)) 0 (record { rows = rows_of key w r.listed; heap = entries_of w q })
+  pub turn_more : (q : List (Waiting C)) (y : Result) → false ≡ M.goal (key n) → q ≡ without₀ x.row h.waits
+      → y ≡ along K M guess r.room x.row (key n) (w v.cost) (M.count (key n)) 0 (record { rows = rows_of key w r.listed; heap = entries_of w q })
       → turn K M guess r.room (first_out (entries_of w h.waits)) before ≡ turned y
   unfolding taken
   turn_more q y e eq ey =
       turns_to false e
-      ∙ ap (λ (z : List Entry). turned (along K M guess r.room x.0 (key n) (w v.cost) (M.count (key n)) 0 (record { rows = rows_of key w r.listed; heap = z }))) (without_entries w x.0 h.waits ∙ ap (entries_of w) (sym eq))
+      ∙ ap (λ (z : List Entry). turned (along K M guess r.room x.row (key n) (w v.cost) (M.count (key n)) 0 (record { rows = rows_of key w r.listed; heap = z }))) (without_entries w x.row h.waits ∙ ap (entries_of w) (sym eq))
       ∙ ap turned (sym ey)

@@ -9,6 +9,16 @@ abbrev pub sizes_fit : (rows slots links : ℕ) → Bool
 sizes_fit rows slots links =
     cond (nat_lt 0 rows) (cond (nat_le rows 32768) (cond (slots == rows) (nat_le links 65535) false) false) false
 
+-- how much memory is lent
+pub record Sizes : Type 0 where
+  pub rows : ℕ
+  pub slots : ℕ
+  pub links : ℕ
+
+-- whether a planner can be made over it
+abbrev pub fit : Sizes → Bool
+fit s = sizes_fit s.rows s.slots s.links
+
 -- the number of the refusal
 abbrev pub make_number : MakeRefusal → ℕ
 make_number Counts = 1
@@ -16,3 +26,7 @@ make_number Counts = 1
 -- a planner that was made over so many rows and links has nothing to hand out
 abbrev pub made_over : (rows links : ℕ) → Held
 made_over rows links = record { capacity = record { rows = rows; links = links }; pending = [] }
+
+-- and one that was made over this memory
+abbrev pub made_in : Sizes → Held
+made_in s = made_over s.rows s.links

@@ -1,18 +1,20 @@
 // The making of a planner: in two calls, of which one checks and one makes, or in one.
-ghost use Rattle.std.specs.Prelude.{◌≡◌, true, false, [], length, if◌then◌else◌, Ok, Err, MatchResult};
+ghost use Rattle.std.specs.Prelude.{◌≡◌, true, false, [], if◌then◌else◌, Ok, Err, MatchResult};
 ghost use Rattle.search.specs.History.{History, Law};
 ghost use Rattle.planner.specs.declared.refusal.MakeRefusal.TheVariants.{Counts};
-ghost use Rattle.planner.specs.Making.{sizes_fit, made_over};
+ghost use Rattle.planner.specs.Making.{sizes_fit, fit, made_in};
 
 use crate::frontier::{Frontier, Reached};
 use crate::planner_type::Planner;
 use crate::refusal::MakeRefusal;
 use kinds::{CostKind, NodeKind};
+use std::marker::Model;
 use store::links::{Link, Links};
 use store::rows::Row;
 use store::slots::Slot;
 
-// Memory that is lent to a planner: rows, a slot for each, and links.
+// Memory that is lent to a planner: rows, a slot for each, and links. Rows and slots are two slices, since a struct cannot lend two
+// parts of itself at once. Contracts see it as how much it is.
 #[derive(Drop)]
 pub struct Lent<'a, N, C> {
     pub rows: &'a mut [Row<N, Reached<C>>],
@@ -20,11 +22,25 @@ pub struct Lent<'a, N, C> {
     pub links: &'a mut [Link],
 }
 
+impl<'a, N, C> Model for Lent<'a, N, C> {
+    ghost use Rattle.std.specs.Prelude.{length};
+    ghost use Rattle.planner.specs.Making.{Sizes};
+
+    ghost Value = { Sizes };
+
+    ghost view = { λ l. record { rows = length l.rows.now; slots = length l.slots.now; links = length l.links.now } };
+}
+
+// The most rows and links that a planner is made over.
+const MOST_ROWS: usize = 32768;
+
+const MOST_LINKS: usize = 65535;
+
 // Whether a planner can be made over so many rows, slots for them, and links.
 pub fn check(rows: usize, slots: usize, links: usize) -> Result<(), MakeRefusal>
     ensures { result ≡ (if sizes_fit rows slots links then Ok tt else Err Counts) }
 {
-    if !(1..=32768).contains(&rows) || slots != rows || links > 65535 {
+    if !(1..=MOST_ROWS).contains(&rows) || slots != rows || links > MOST_LINKS {
         return Err(MakeRefusal::Counts);
     }
     Ok(())
@@ -34,10 +50,10 @@ impl<'a, N: NodeKind, C: CostKind> Planner<'a, N, C> {
     // A planner over this memory, with nothing to hand out. What the memory holds beforehand does not matter. With it a
     // history begins, and the law holds of every history.
     pub fn make(lent: Lent<'a, N, C>) -> Planner<'a, N, C>
-        requires { sizes_fit (length lent.rows.now) (length lent.slots.now) (length lent.links.now) ≡ true }
+        requires { fit lent ≡ true }
         ensures law { Law C.kind }
         ensures begins { History C.kind [] result }
-        ensures held { result ≡ made_over (length lent.entry.rows.now) (length lent.entry.links.now) }
+        ensures held { result ≡ made_in lent.entry }
     {
         Planner {
             frontier: Frontier::over(lent.rows, lent.slots),
@@ -49,7 +65,7 @@ impl<'a, N: NodeKind, C: CostKind> Planner<'a, N, C> {
     // The same, where a planner can be made over this memory.
     pub fn new(lent: Lent<'a, N, C>) -> Result<Planner<'a, N, C>, MakeRefusal>
         ensures law { Law C.kind }
-        ensures made { MatchResult result (λ p. (sizes_fit (length lent.entry.rows.now) (length lent.entry.slots.now) (length lent.entry.links.now) ≡ true) × History C.kind [] p × (p ≡ made_over (length lent.entry.rows.now) (length lent.entry.links.now))) (λ e. (sizes_fit (length lent.entry.rows.now) (length lent.entry.slots.now) (length lent.entry.links.now) ≡ false) × (e ≡ Counts)) }
+        ensures made { MatchResult result (λ p. (fit lent.entry ≡ true) × History C.kind [] p × (p ≡ made_in lent.entry)) (λ e. (fit lent.entry ≡ false) × (e ≡ Counts)) }
     {
         check(lent.rows.len(), lent.slots.len(), lent.links.len())?;
         Ok(Planner::make(lent))

@@ -1,4 +1,5 @@
-// One road of a row that was taken out. Each step says `After`, which is about two moments and so can stand in no type.
+// One road of a row that was taken out. Each step says `After`, which is about two moments, and asks that the row is in use, which is
+// about an argument and a frontier: so they can stand in no type.
 ghost use Rattle.std.specs.Prelude.{◌≡◌, ◌+◌, ◌<◌, true, length, if◌then◌else◌, Some, None, nat_lt};
 ghost use Rattle.kinds.specs.Kind.{sum_of};
 ghost use Rattle.search.specs.Rows.{find};
@@ -19,7 +20,8 @@ pub(crate) struct Taken<N, C> {
     pub(crate) cost: C,
 }
 
-// An open road: the row that it leaves, its rank, the node that it leads to, and the sum of costs there.
+// An open road: the row that it leaves, its rank, the node that it leads to, and the sum of costs there. Row and sum stand apart:
+// as a `Reached`, a part of a part, they are beyond what the check follows.
 #[derive(Clone, Copy)]
 pub(crate) struct Open<N, C> {
     row: u16,
@@ -28,7 +30,7 @@ pub(crate) struct Open<N, C> {
     sum: C,
 }
 
-// A sum of costs with the guess of the cost ahead of a node.
+// A sum of costs with the guess of the cost ahead of a node: a function, so that a clause pins the estimate.
 fn estimate<N: NodeKind, C: CostKind, G: Graph<Node = N, Cost = C>>(
     graph: &G,
     node: N,
@@ -39,7 +41,7 @@ fn estimate<N: NodeKind, C: CostKind, G: Graph<Node = N, Cost = C>>(
     sum.sum(graph.guess(&node))
 }
 
-// Whether a sum is less than the cost so far.
+// Whether a sum is less than the cost so far: a function, so that a clause pins the test.
 fn undercuts<C: CostKind>(sum: C, cost: C) -> bool
     ensures { result ≡ nat_lt (C.weight sum) (C.weight cost) }
 {

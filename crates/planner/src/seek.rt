@@ -4,6 +4,7 @@ ghost use Rattle.search.specs.Calls.{Sought};
 ghost use Rattle.planner.specs.Pending.{answer_of};
 
 use crate::planner_type::Planner;
+use crate::turns::Goal;
 use graph::Graph;
 use kinds::{CostKind, NodeKind};
 use search::SeekRefusal;
@@ -22,7 +23,7 @@ impl<'a, N: NodeKind, C: CostKind> Planner<'a, N, C> {
             return Err(SeekRefusal::NotHeld);
         }
         self.frontier.begin(start);
-        let Some((row, cost)) = self.frontier.run(graph)? else {
+        let Some(Goal { row, cost }) = self.frontier.run(graph)? else {
             return Ok(None);
         };
         self.sink = Some(row);

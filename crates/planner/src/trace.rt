@@ -13,6 +13,7 @@ impl<'a, N: NodeKind, C: CostKind> Frontier<'a, N, C> {
     {
         let all = self.register.len();
         let mut at = row;
+        // The walk itself has no range; its steps are at most the rows, which shows that it ends.
         for depth in 1..all {
             if at == 0 {
                 return depth;

@@ -11,6 +11,14 @@ use graph::Graph;
 use kinds::{CostKind, NodeKind};
 use search::SeekRefusal;
 use std::ops::ControlFlow;
+use store::slots::Waiting;
+
+// A goal that was taken out: its row, and the cost that it was reached at.
+#[derive(Clone, Copy)]
+pub(crate) struct Goal<C> {
+    pub(crate) row: u16,
+    pub(crate) cost: C,
+}
 
 impl<'a, N: NodeKind, C: CostKind> Frontier<'a, N, C> {
     // The roads of a row that was taken out, in the order of their ranks.
@@ -30,23 +38,23 @@ impl<'a, N: NodeKind, C: CostKind> Frontier<'a, N, C> {
         Ok(())
     }
 
-    // Takes the first out: a goal ends the search, and the roads of another row are followed. The search ends too where
+    // One turn of the search, as its definition has it. Takes the first out: a goal ends the search, and the roads of another row are followed. The search ends too where
     // none waits.
     fn turn<G: Graph<Node = N, Cost = C>>(
         &mut self,
         graph: &G,
-    ) -> Result<ControlFlow<Option<(u16, C)>>, SeekRefusal>
+    ) -> Result<ControlFlow<Option<Goal<C>>>, SeekRefusal>
         ensures after { After self.old self.new }
         ensures inside { found_in result (length self.new.state.rows) }
         ensures answer { turned_of C.weight result self.new.state ≡ turns C.kind (G.means graph.now) (G.guesses graph.now) self.old.capacity (first_out self.old.state.heap) self.old.state }
     {
-        let Some((row, _, _)) = self.heap.pop() else {
+        let Some(Waiting { row, .. }) = self.heap.pop() else {
             return Ok(ControlFlow::Break(None));
         };
         let node = self.register.node(row);
         let cost = self.register.value(row).cost;
         if graph.goal(&node) {
-            return Ok(ControlFlow::Break(Some((row, cost))));
+            return Ok(ControlFlow::Break(Some(Goal { row, cost })));
         }
         self.expand(graph, Taken { row, node, cost })?;
         Ok(ControlFlow::Continue(()))
@@ -56,7 +64,7 @@ impl<'a, N: NodeKind, C: CostKind> Frontier<'a, N, C> {
     pub(crate) fn run<G: Graph<Node = N, Cost = C>>(
         &mut self,
         graph: &G,
-    ) -> Result<Option<(u16, C)>, SeekRefusal>
+    ) -> Result<Option<Goal<C>>, SeekRefusal>
         ensures after { After self.old self.new }
         ensures inside { ended_in result (length self.new.state.rows) }
         ensures answer { Ends C.kind (G.means graph.now) (G.guesses graph.now) self.old.capacity self.old.state (end_of C.weight result self.new.state) }

@@ -3,7 +3,7 @@ ghost use Rattle.std.specs.Prelude.{◌≡◌, false, [], ◌∷◌, length, Mat
 ghost use Rattle.search.specs.Answers.{dijkstra, astar};
 ghost use Rattle.search.specs.Calls.{sought, handed_out};
 ghost use Rattle.search.specs.History.{Whole};
-ghost use Rattle.planner.specs.Making.{sizes_fit};
+ghost use Rattle.planner.specs.Making.{fit};
 ghost use Rattle.planner.specs.Pending.{answer_of};
 ghost use Rattle.planner.specs.Handing.{given_of};
 
@@ -38,7 +38,7 @@ pub fn plan_twice<
     out: &mut [N],
     again: &mut [N],
 ) -> Result<TwoSeeks<C>, MakeRefusal>
-    ensures { MatchResult result (λ t. Whole C.kind (sought dijkstra (G.means graph.now) (G.guesses graph.now) (N.key start) (answer_of C.weight t.first) ∷ handed_out (length out.old) (given_of N.key t.given out.new) ∷ sought astar (H.means other.now) (H.guesses other.now) (N.key start) (answer_of C.weight t.second) ∷ handed_out (length again.old) (given_of N.key t.given_again again.new) ∷ [])) (λ _. sizes_fit (length lent.entry.rows.now) (length lent.entry.slots.now) (length lent.entry.links.now) ≡ false) }
+    ensures { MatchResult result (λ t. Whole C.kind (sought dijkstra (G.means graph.now) (G.guesses graph.now) (N.key start) (answer_of C.weight t.first) ∷ handed_out (length out.old) (given_of N.key t.given out.new) ∷ sought astar (H.means other.now) (H.guesses other.now) (N.key start) (answer_of C.weight t.second) ∷ handed_out (length again.old) (given_of N.key t.given_again again.new) ∷ [])) (λ _. fit lent.entry ≡ false) }
 {
     let mut planner = Planner::new(lent)?;
     let first = planner.dijkstra(graph, start);

@@ -4,7 +4,12 @@
 pub mod lines;
 pub mod memory;
 pub mod method;
+pub mod route;
 
-pub use lines::run;
-pub use memory::Memory;
+pub use lines::{Found, LINKS, ROWS, run};
+pub use memory::{Desk, Memory};
 pub use method::Method;
+pub use route::Route;
+
+#[cfg(test)]
+mod tests;

@@ -1,16 +1,19 @@
 // Memory for a planner.
-ghost use Rattle.std.specs.Prelude.{◌≡◌, false, [], length, IfOk, OnOk, OnErr, vec_len};
+ghost use Rattle.std.specs.Prelude.{◌≡◌, true, false, [], length, IfOk, IfErr, OnOk};
 ghost use Rattle.search.specs.History.{History, Law};
-ghost use Rattle.planner.specs.Making.{sizes_fit, made_over};
+ghost use Rattle.planner.specs.declared.refusal.MakeRefusal.TheVariants.{Counts};
+ghost use Rattle.planner.specs.Making.{fit, made_in};
+ghost use Rattle.report.specs.Stock.{sizes_of};
 
 use kinds::{CostKind, NodeKind};
 use planner::{Lent, MakeRefusal, Planner, Reached};
 use std::alloc::{AllocError, Global};
+use std::marker::Model;
 use store::links::Link;
 use store::rows::Row;
 use store::slots::Slot;
 
-// What a planner is lent, and room for the nodes of a route.
+// What a planner is lent, and room for the nodes of a route. Contracts see it as how much it is.
 #[derive(Drop)]
 pub struct Memory<N, C> {
     pub rows: Vec<Row<N, Reached<C>>>,
@@ -19,13 +22,32 @@ pub struct Memory<N, C> {
     pub nodes: Vec<N>,
 }
 
+impl<N, C> Model for Memory<N, C> {
+    ghost use Rattle.std.specs.Prelude.{vec_len};
+    ghost use Rattle.report.specs.Stock.{Stock};
+
+    ghost Value = { Stock };
+
+    ghost view = { λ m. record { rows = vec_len m.rows; slots = vec_len m.slots; links = vec_len m.links; nodes = vec_len m.nodes } };
+}
+
 impl<N: NodeKind, C: CostKind> Memory<N, C> {
-    // Memory of so many rows and links, with a slot and a node for each row; a node fills it.
+    // Memory of so many rows and links, with a slot for each row, and room for routes as long as there are rows; a node fills it.
     pub fn new(heap: Global, node: N, rows: usize, links: usize) -> Result<Memory<N, C>, AllocError>
-        ensures rows { IfOk result (λ m. vec_len m.rows ≡ rows) }
-        ensures slots { IfOk result (λ m. vec_len m.slots ≡ rows) }
-        ensures links { IfOk result (λ m. vec_len m.links ≡ links) }
-        ensures nodes { IfOk result (λ m. vec_len m.nodes ≡ rows) }
+        ensures { IfOk result (λ m. m ≡ record { rows = rows; slots = rows; links = links; nodes = rows }) }
+    {
+        Memory::with_room(heap, node, rows, links, rows)
+    }
+
+    // The same, with room for routes of so many nodes.
+    pub fn with_room(
+        heap: Global,
+        node: N,
+        rows: usize,
+        links: usize,
+        nodes: usize,
+    ) -> Result<Memory<N, C>, AllocError>
+        ensures { IfOk result (λ m. m ≡ record { rows = rows; slots = rows; links = links; nodes = nodes }) }
     {
         let reached = Reached {
             cost: C::zero(),
@@ -35,7 +57,7 @@ impl<N: NodeKind, C: CostKind> Memory<N, C> {
             rows: vec![in heap; Row::new(node, reached); rows]?,
             slots: vec![in heap; Slot::new(); rows]?,
             links: vec![in heap; Link::new(); links]?,
-            nodes: vec![in heap; node; rows]?,
+            nodes: vec![in heap; node; nodes]?,
         })
     }
 
@@ -44,9 +66,10 @@ impl<N: NodeKind, C: CostKind> Memory<N, C> {
     pub fn desk(&mut self) -> Result<Desk<'_, N, C>, MakeRefusal>
         ensures law { OnOk result (Law C.kind) }
         ensures begins { IfOk result (λ d. History C.kind [] d.planner) }
-        ensures held { IfOk result (λ d. d.planner ≡ made_over (vec_len self.old.rows) (vec_len self.old.links)) }
-        ensures room { IfOk result (λ d. length d.out.now ≡ vec_len self.old.nodes) }
-        ensures refused { OnErr result (sizes_fit (vec_len self.old.rows) (vec_len self.old.slots) (vec_len self.old.links) ≡ false) }
+        ensures held { IfOk result (λ d. d.planner ≡ made_in (sizes_of self.old)) }
+        ensures room { IfOk result (λ d. length d.out.now ≡ self.old.nodes) }
+        ensures fits { OnOk result (fit (sizes_of self.old) ≡ true) }
+        ensures refused { IfErr result (λ e. (fit (sizes_of self.old) ≡ false) × (e ≡ Counts)) }
     {
         let planner = Planner::new(Lent {
             rows: self.rows.as_mut_slice(),
@@ -60,7 +83,8 @@ impl<N: NodeKind, C: CostKind> Memory<N, C> {
     }
 }
 
-// A planner, with room for its routes.
+// A planner, with room for its routes. Its parts are lent one by one: what a method hands out may not borrow from a desk whose
+// planner a clause speaks of.
 #[derive(Drop)]
 pub struct Desk<'a, N: NodeKind, C: CostKind> {
     pub planner: Planner<'a, N, C>,

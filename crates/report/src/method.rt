@@ -81,6 +81,7 @@ impl FromStr for Method {
 #[derive(Clone, Copy, Debug, PartialEq, Eq)]
 pub struct UnknownName;
 
+// By hand: what a derive writes has no contract.
 impl fmt::Display for UnknownName {
     ghost output = { λ _. Some (codes "no search has this name") };
 

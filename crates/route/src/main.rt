@@ -4,17 +4,13 @@
 #![tactic(auto)]
 
 use anyhow::bail;
-use report::Method;
+use report::{LINKS, Method, ROWS};
 use std::env;
 use std::io::Read;
 
-const ROWS: usize = 512;
-
-const LINKS: usize = 2000;
-
-fn start(rt: &HostRuntime) -> anyhow::Result<()> {
+fn main(rt: HostRuntime) -> anyhow::Result<()> {
     let mut names = Vec::new(rt.alloc());
-    for name in env::args(rt)?.skip(1) {
+    for name in env::args(&rt)?.skip(1) {
         if name.as_str().parse::<Method>().is_err() {
             let [first, last] = Method::ALL;
             eprintln!(rt; "route: no search is called {name}: there are {first} and {last}")?;
@@ -24,9 +20,5 @@ fn start(rt: &HostRuntime) -> anyhow::Result<()> {
     }
     let mut bytes = Vec::new(rt.alloc());
     rt.stdin().read_to_end(&mut bytes)?;
-    report::run(rt, names.as_slice(), bytes.as_slice(), ROWS, LINKS)
-}
-
-fn main(rt: HostRuntime) -> anyhow::Result<()> {
-    start(&rt)
+    report::run(&rt, names.as_slice(), bytes.as_slice(), ROWS, LINKS)
 }

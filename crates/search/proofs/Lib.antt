@@ -1,4 +1,3 @@
-pub mod Never
 pub mod Falls
 pub mod Once
 pub mod Places

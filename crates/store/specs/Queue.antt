@@ -1,13 +1,11 @@
 -- What waits in a heap, as a list in the order of the pushes.
 use Rattle.std.specs.Prelude.{ℕ, Bool, true, false, cond, List, [], ◌∷◌, ◌++◌, map, Some, None, Option, ◌==◌, nat_lt}
 use Rattle.store.specs.declared.slots.Entry.{Entry}
+use Rattle.store.specs.declared.slots.Waiting.{Waiting}
 
--- a row waiting in the heap, with its estimate and its cost
-abbrev pub Waiting : Type 0 → Type 0
-Waiting C = ℕ × C × C
-
+-- the row that waits, without the number of its push
 abbrev pub waiting : {C : Type 0} → Entry C → Waiting C
-waiting e = (e.row, e.estimate, e.cost)
+waiting e = record { row = e.row; estimate = e.estimate; cost = e.cost }
 
 -- x put among ys by its push number
 abbrev pub among : {C : Type 0} → Entry C → List (Entry C) → List (Entry C)
@@ -25,16 +23,16 @@ queue es = map waiting (by_push es)
 -- the queue with nothing for row r
 abbrev pub without : {C : Type 0} → ℕ → List (Waiting C) → List (Waiting C)
 without r [] = []
-without r (x ∷ xs) = cond (x.0 == r) (without r xs) (x ∷ without r xs)
+without r (x ∷ xs) = cond (x.row == r) (without r xs) (x ∷ without r xs)
 
 -- what a push leaves: the row's older entry goes, and the new one comes last
 abbrev pub pushed : {C : Type 0} → List (Waiting C) → ℕ → C → C → List (Waiting C)
-pushed q r e c = without r q ++ (r, e, c) ∷ []
+pushed q r e c = without r q ++ record { row = r; estimate = e; cost = c } ∷ []
 
 -- y, which was pushed after x, comes out before it
 abbrev pub overtakes : {C : Type 0} → (C → ℕ) → Waiting C → Waiting C → Bool
 overtakes w y x =
-    cond (nat_lt (w y.1) (w x.1)) true (cond (w y.1 == w x.1) (nat_lt (w x.2) (w y.2)) false)
+    cond (nat_lt (w y.estimate) (w x.estimate)) true (cond (w y.estimate == w x.estimate) (nat_lt (w x.cost) (w y.cost)) false)
 
 abbrev pub sooner : {C : Type 0} → (C → ℕ) → Waiting C → Option (Waiting C) → Option (Waiting C)
 sooner w x None = Some x
@@ -48,4 +46,4 @@ first_out w (x ∷ xs) = sooner w x (first_out w xs)
 -- what is left once r is taken out
 abbrev pub left : {C : Type 0} → Option (Waiting C) → List (Waiting C) → List (Waiting C)
 left None q = q
-left (Some x) q = without x.0 q
+left (Some x) q = without x.row q

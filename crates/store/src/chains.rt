@@ -6,7 +6,8 @@ ghost use Rattle.store.specs.Rows.{Linked, Single, found};
 use crate::rows::Row;
 use kinds::NodeKind;
 
-// Both functions take the rows and how many are in use: they run while the register is open and its invariant may not hold.
+// Both functions take the rows and how many are in use, and not the register that has them: `insert` runs while the register's
+// invariant does not hold, and both say what they do by the same chains.
 
 // The row of the node's key among the first n.
 pub(crate) fn seek<N: NodeKind, V: Copy>(rows: &[Row<N, V>], n: usize, node: &N) -> Option<usize>
@@ -18,7 +19,7 @@ pub(crate) fn seek<N: NodeKind, V: Copy>(rows: &[Row<N, V>], n: usize, node: &N)
         return None;
     }
     let bucket = node.mark() as usize % rows.len();
-    // The key has no row from `end` on.
+    // A walk along a chain, which no range has; the key has no row from `end` on.
     let mut end = n;
     let mut row = rows[bucket].head as usize;
     while row < end && rows[row].node.mark() as usize % rows.len() == bucket {

@@ -3,7 +3,7 @@ ghost use Rattle.std.specs.Prelude.{◌≡◌, ◌+◌, ◌<◌, ◌≤◌, [], 
 ghost use Rattle.store.specs.Queue.{pushed, first_out, left};
 
 use crate::places::Places;
-use crate::slots::{Entry, Slot};
+use crate::slots::{Entry, Slot, Waiting};
 use kinds::CostKind;
 use std::marker::Model;
 
@@ -38,7 +38,7 @@ impl<'a, C: CostKind> Heap<'a, C> {
 
     // A heap with no entry whose next push has this number; it differs from a new one in nothing but when push numbers
     // are dealt anew, which a test can so bring about.
-    #[tactic(auto, using(crate::proofs::Turns::queue_none))]
+    #[tactic(auto, using(crate::proofs::Turns::apart_none), unfolding(crate::specs::Queue::queue))]
     pub fn counting_from(slots: &'a mut [Slot<C>], count: u64) -> Heap<'a, C>
         requires { length slots.old ≤ 65536 }
         ensures empty { result.waits ≡ [] }
@@ -52,7 +52,7 @@ impl<'a, C: CostKind> Heap<'a, C> {
     }
 
     // Takes every entry out, in constant time.
-    #[tactic(auto, using(crate::proofs::Turns::queue_none))]
+    #[tactic(auto, using(crate::proofs::Turns::apart_none), unfolding(crate::specs::Queue::queue))]
     pub fn clear(&mut self)
         ensures empty { self.new.waits ≡ [] }
         ensures rows { self.new.rows ≡ self.old.rows }
@@ -79,15 +79,14 @@ impl<'a, C: CostKind> Heap<'a, C> {
         self.count += 1;
     }
 
-    // Takes out the entry that comes first: its row, estimate and cost.
+    // Takes out the entry that comes first.
     #[tactic(auto, using(crate::proofs::Turns::length_queue))]
-    pub fn pop(&mut self) -> Option<(u16, C, C)>
+    pub fn pop(&mut self) -> Option<Waiting<C>>
         ensures size { MatchOption result (length self.new.waits ≡ 0) (λ _. length self.new.waits + 1 ≡ length self.old.waits) }
         ensures first { result ≡ first_out C.weight self.old.waits }
         ensures waits { self.new.waits ≡ left result self.old.waits }
         ensures rows { self.new.rows ≡ self.old.rows }
     {
-        let first = self.places.take_first()?;
-        Some((first.row, first.estimate, first.cost))
+        self.places.take_first().map(Waiting::from)
     }
 }

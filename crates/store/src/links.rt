@@ -3,7 +3,8 @@ ghost use Rattle.std.specs.Prelude.{◌≡◌, length};
 
 use std::marker::Model;
 
-// A parent row, and the next link of the same list.
+// A parent row, and the next link of the same list, by their numbers, since both are lent and nothing is allocated. No search uses
+// them yet.
 #[derive(Clone, Copy, Debug)]
 pub struct Link {
     pub parent: u16,

@@ -12,7 +12,9 @@ use kinds::CostKind;
 use std::marker::Model;
 
 // The first `len` slots have the entries, and the slot of a row has the place of its entry. The length stands beside the slots,
-// since they are lent and nothing is allocated.
+// since they are lent and nothing is allocated. Contracts see the entries as a list; that they are a heap is asked for and promised
+// one by one, since it does not hold in the midst of a walk. A lent slice keeps its length, which each change says as `rows`. Where a
+// method begins with `let slots`, the check would ask for an index before it opens the value.
 #[derive(Drop)]
 pub(crate) struct Places<'a, C: CostKind> {
     slots: &'a mut [Slot<C>],
@@ -66,7 +68,6 @@ impl<'a, C: CostKind> Places<'a, C> {
     }
 
     // How many entries there are.
-    #[tactic(auto, using(crate::proofs::Seats::length_entries))]
     pub(crate) fn len(&self) -> usize
         ensures count { result ≡ length self.now.entries }
         ensures few { result ≤ 65536 }
@@ -75,7 +76,7 @@ impl<'a, C: CostKind> Places<'a, C> {
     }
 
     // Whether the entry at i comes out before that at j.
-    #[tactic(auto, using(crate::proofs::Seats::length_entries))]
+    #[tactic(auto, using(crate::proofs::Seats::length_entries, crate::proofs::Seats::entries_at))]
     fn ahead(&self, i: usize, j: usize) -> bool
         requires i_in { i < length self.now.entries }
         requires j_in { j < length self.now.entries }
@@ -101,7 +102,8 @@ impl<'a, C: CostKind> Places<'a, C> {
         seat(slots, j, a);
     }
 
-    // Takes the entry at `from` up past each parent that it is ahead of, and answers where it then stands.
+    // Takes the entry at `from` up past each parent that it is ahead of, and answers where it then stands. A walk by halves, which
+    // no range has.
     fn rise(&mut self, from: usize) -> usize
         requires inside { from < length self.old.entries }
         requires loose { HeapedBut C.weight self.old.entries from }
@@ -141,7 +143,7 @@ impl<'a, C: CostKind> Places<'a, C> {
         }
     }
 
-    // Takes the entry at `from` down past each child that is ahead of it.
+    // Takes the entry at `from` down past each child that is ahead of it. A walk to the better child, which no range has.
     fn sink(&mut self, from: usize)
         requires inside { from < length self.old.entries }
         requires loose { HeapedBut C.weight self.old.entries from }
@@ -174,8 +176,9 @@ impl<'a, C: CostKind> Places<'a, C> {
         self.sink(h);
     }
 
-    // The place of the entry of a row.
-    #[tactic(auto, using(crate::proofs::Seats::length_entries))]
+    // The place of the entry of a row. An `if`: with `then_some` the check does not find the proof alone, and an answer of thirty lines is
+    // no plainer.
+    #[tactic(auto, using(crate::proofs::Seats::length_entries, crate::proofs::Seats::entries_at, crate::proofs::Seats::place_is))]
     fn place_of(&self, row: u16) -> Option<usize>
         requires { row < self.now.rows }
         ensures { MatchOption result ((k : ℕ) (d : Entry C) → k < length self.now.entries → (nth self.now.entries d k).row ≢ row) (λ p. (p < length self.now.entries) × ((d : Entry C) → (nth self.now.entries d p).row ≡ row)) }
@@ -190,7 +193,6 @@ impl<'a, C: CostKind> Places<'a, C> {
     }
 
     // Pushes the entry, in place of the row's older one.
-    #[tactic(auto, using(crate::proofs::Seats::length_entries))]
     pub(crate) fn put(&mut self, entry: Entry<C>)
         requires row_in { entry.row < self.old.rows }
         requires sound { Sound C.weight self.old.entries entry.push }
@@ -229,7 +231,6 @@ impl<'a, C: CostKind> Places<'a, C> {
     }
 
     // Deals the push numbers of the entries anew, in their order, and answers the first number that is free.
-    #[tactic(auto, using(crate::proofs::Seats::length_entries))]
     pub(crate) fn deal(&mut self) -> u64
         requires apart { Apart self.old.entries }
         requires heaped { Heaped C.weight self.old.entries }

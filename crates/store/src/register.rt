@@ -29,7 +29,7 @@ impl<'a, N: NodeKind, V: Copy> Model for Register<'a, N, V> {
 
 impl<'a, N: NodeKind, V: Copy> Register<'a, N, V> {
     // A register with no row.
-    #[tactic(auto, using(crate::proofs::Buckets::found_none))]
+    #[tactic(auto, unfolding(crate::specs::Rows::found))]
     pub fn new(rows: &'a mut [Row<N, V>]) -> Register<'a, N, V>
         requires { length rows.old ≤ 65536 }
         ensures empty { result.listed ≡ [] }
@@ -39,7 +39,7 @@ impl<'a, N: NodeKind, V: Copy> Register<'a, N, V> {
     }
 
     // Drops every row, in constant time.
-    #[tactic(auto, using(crate::proofs::Buckets::found_none))]
+    #[tactic(auto, unfolding(crate::specs::Rows::found))]
     pub fn clear(&mut self)
         ensures empty { self.new.listed ≡ [] }
         ensures room { self.new.room ≡ self.old.room }
@@ -48,7 +48,7 @@ impl<'a, N: NodeKind, V: Copy> Register<'a, N, V> {
     }
 
     // How many rows are in use.
-    #[tactic(auto, using(crate::proofs::Buckets::length_found))]
+    #[tactic(auto, unfolding(crate::specs::Rows::found))]
     pub fn len(&self) -> usize
         ensures count { result ≡ length self.now.listed }
         ensures fits { length self.now.listed ≤ self.now.room }
@@ -66,7 +66,7 @@ impl<'a, N: NodeKind, V: Copy> Register<'a, N, V> {
     }
 
     // Gives a node whose key is new the next row; nothing where all rows are in use.
-    #[tactic(auto, using(crate::proofs::Buckets::length_found))]
+    #[tactic(auto, unfolding(crate::specs::Rows::found))]
     pub fn add(&mut self, node: N, value: V) -> Option<u16>
         requires fresh { number_of N.key (N.key node) self.old.listed ≡ None }
         ensures number { result ≡ (if nat_lt (length self.old.listed) self.old.room then Some (length self.old.listed) else None) }
@@ -82,8 +82,10 @@ impl<'a, N: NodeKind, V: Copy> Register<'a, N, V> {
         Some(row as u16)
     }
 
+    // The next three open the rows first: the check asks for an index before it opens a value.
+
     // The node of a row, as it was first found.
-    #[tactic(auto, using(crate::proofs::Buckets::length_found))]
+    #[tactic(auto, unfolding(crate::specs::Rows::found))]
     pub fn node(&self, row: u16) -> N
         requires { row < length self.now.listed }
         ensures { At self.now.listed row (λ x. result ≡ x.0) }
@@ -93,7 +95,7 @@ impl<'a, N: NodeKind, V: Copy> Register<'a, N, V> {
     }
 
     // The value of a row.
-    #[tactic(auto, using(crate::proofs::Buckets::length_found))]
+    #[tactic(auto, unfolding(crate::specs::Rows::found))]
     pub fn value(&self, row: u16) -> V
         requires { row < length self.now.listed }
         ensures { At self.now.listed row (λ x. result ≡ x.1) }
@@ -103,7 +105,7 @@ impl<'a, N: NodeKind, V: Copy> Register<'a, N, V> {
     }
 
     // Gives a row another value, and changes nothing else.
-    #[tactic(auto, using(crate::proofs::Buckets::length_found))]
+    #[tactic(auto, unfolding(crate::specs::Rows::found))]
     pub fn set_value(&mut self, row: u16, value: V)
         requires { row < length self.old.listed }
         ensures listed { Valued self.old.listed self.new.listed row value }

@@ -4,7 +4,15 @@ ghost use Rattle.store.specs.Slots.{Ahead};
 
 use kinds::CostKind;
 
-// A row that waits, with its estimate, its cost, and the number of its push.
+// A row that waits, with its estimate and its cost.
+#[derive(Clone, Copy, PartialEq, Eq, Debug)]
+pub struct Waiting<C> {
+    pub row: u16,
+    pub estimate: C,
+    pub cost: C,
+}
+
+// A row that waits, with its estimate, its cost, and the number of its push; flat, since the heap reads the four one by one.
 #[derive(Clone, Copy)]
 pub struct Entry<C> {
     pub row: u16,
@@ -13,8 +21,24 @@ pub struct Entry<C> {
     pub push: u64,
 }
 
+// The row that waits, without the number of its push.
+impl<C> From<Entry<C>> for Waiting<C> {
+    ghost use Rattle.store.specs.Queue.{waiting};
+
+    ghost from_gives = { λ entry row. row ≡ waiting entry };
+
+    fn from(entry: Entry<C>) -> Waiting<C> {
+        Waiting {
+            row: entry.row,
+            estimate: entry.estimate,
+            cost: entry.cost,
+        }
+    }
+}
+
 impl<C: CostKind> Entry<C> {
-    // Whether it comes out before another; either answer is right where the two differ in nothing that counts.
+    // Whether it comes out before another; either answer is right where the two differ in nothing that counts. By hand, since one
+    // of the three is ordered backwards, and a tuple with `Reverse` is no plainer.
     pub(crate) fn comes_before(&self, other: &Entry<C>) -> bool
         ensures { MatchBool result (Ahead C.weight self.now other.now) (Ahead C.weight other.now self.now) }
     {
@@ -27,6 +51,7 @@ impl<C: CostKind> Entry<C> {
 }
 
 // An entry; the place of the entry of the row that has this slot's number; and room for a number while pushes are dealt anew.
+// The three stand in one slot, since a row has one slot and no more memory is lent.
 #[derive(Clone, Copy)]
 pub struct Slot<C> {
     pub entry: Entry<C>,

@@ -20,7 +20,7 @@ fn print_out<C: CostKind>(rt: &impl Print, heap: &mut Heap<C>, times: usize) -> 
     for _ in 0..times {
         match heap.pop() {
             None => print!(rt; " -")?,
-            Some((row, _, _)) => print!(rt; " {row}")?,
+            Some(waiting) => print!(rt; " {}", waiting.row)?,
         }
     }
     println!(rt; "")
@@ -67,10 +67,7 @@ fn stations(rt: &impl Print) -> io::Result<()> {
     let mut register = Register::new(&mut rows);
     let first = register.add(Station { id: 9 }, 1);
     let other = register.find(&Station { id: 10 });
-    let full = match other {
-        None => register.add(Station { id: 10 }, 2),
-        Some(row) => Some(row),
-    };
+    let full = other.or_else(|| register.add(Station { id: 10 }, 2));
     println!(rt; "stations: {first:?} {other:?} {full:?}")
 }
 

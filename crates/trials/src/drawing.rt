@@ -66,16 +66,16 @@ impl<'a> Drawing<'a> {
     }
 
     fn guess_at(&self, station: u32) -> u32 {
-        match self.guess {
-            Some(guess) if guess.station == station => guess.millis,
-            _ => 0,
-        }
+        self.guess
+            .filter(|guess| guess.station == station)
+            .map_or(0, |guess| guess.millis)
     }
 
     fn put_station(&self, bytes: &mut Vec<u8>, station: u32) -> Result<(), AllocError> {
         put_count(bytes, self.first_road(station))?;
         put(bytes, 0)?;
         put(bytes, self.guess_at(station))?;
+        // A goal in zone 0, as the format of charts has it.
         put(bytes, if station == self.goal { 256 } else { 0 })
     }
 
@@ -84,6 +84,7 @@ impl<'a> Drawing<'a> {
         let mut bytes = Vec::new(heap);
         put(&mut bytes, self.stations)?;
         put_count(&mut bytes, self.roads.len())?;
+        // Where the two tables begin, as the format of charts has it.
         put(&mut bytes, 16)?;
         put(
             &mut bytes,

@@ -1,18 +1,11 @@
 // Searches over a small field, under fences and tolls.
 use crate::steps::{Answer, desk_over};
-use anyhow::bail;
 use field::{Field, Layout};
-use graph::{Fence, Graph, Toll};
+use graph::{Fence, Graph, Toll, only};
 use kinds::{Cell, CostKind, Millis};
 use report::{Memory, Method};
-use std::array;
 
 const LEFT: Cell = Cell { column: 0, row: 0 };
-
-// A table that has one zone. The field cases have one of their own: no crate below both is for tests.
-fn only(zone: usize) -> [bool; 64] {
-    array::from_fn(|place| place == zone)
-}
 
 // Seeks by each search from the left cell.
 fn seek<G: Graph<Node = Cell, Cost = Millis>>(
@@ -62,8 +55,5 @@ pub fn layers(rt: &HostRuntime) -> anyhow::Result<()> {
         target: Cell { column: 2, row: 0 },
     };
     let map = [0u8, 7, 0];
-    if field::check(layout, &map).is_err() {
-        bail!("the field is refused");
-    }
-    piles(rt, Field::make(layout, &map))
+    piles(rt, Field::new(layout, &map)?)
 }

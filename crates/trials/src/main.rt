@@ -8,13 +8,9 @@ mod searches;
 mod soak;
 mod steps;
 
-fn run(rt: &HostRuntime) -> anyhow::Result<()> {
-    containers::containers(rt)?;
-    searches::searches(rt)?;
-    layers::layers(rt)?;
-    soak::soak(rt)
-}
-
 fn main(rt: HostRuntime) -> anyhow::Result<()> {
-    run(&rt)
+    containers::containers(&rt)?;
+    searches::searches(&rt)?;
+    layers::layers(&rt)?;
+    soak::soak(&rt)
 }

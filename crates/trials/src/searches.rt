@@ -4,9 +4,7 @@ use crate::steps::{Answer, chart_in, desk_over};
 use chart::Chart;
 use kinds::{Station, Trims};
 use planner::Planner;
-use report::lines::Route;
-use report::memory::Desk;
-use report::{Memory, Method};
+use report::{Desk, Memory, Method, Route};
 use std::io;
 
 fn print_hand_out(
@@ -14,18 +12,10 @@ fn print_hand_out(
     planner: &mut Planner<Station, Trims>,
     out: &mut [Station],
 ) -> io::Result<()> {
-    match planner.hand_out(out) {
-        Err(refusal) => {
-            let number = u8::from(refusal);
-            println!(rt; "  hand-out refused {number}: {refusal:?}")
-        }
+    match Route::next(planner, out) {
+        Err(refusal) => println!(rt; "  hand-out refused {}: {refusal:?}", u8::from(refusal)),
         Ok(None) => println!(rt; "  finished"),
-        Ok(Some(length)) => {
-            let route = Route {
-                nodes: &out[0..length],
-            };
-            println!(rt; "  route{route}")
-        }
+        Ok(Some(route)) => println!(rt; "  route{route}"),
     }
 }
 
@@ -78,8 +68,7 @@ impl<'a> Trial<'a> {
     }
 
     fn show(&self, rt: &HostRuntime) -> anyhow::Result<()> {
-        let title = self.title;
-        println!(rt; "{title}")?;
+        println!(rt; "{}", self.title)?;
         let bytes = self.drawing.bytes(rt.alloc())?;
         let chart = chart_in(bytes.as_slice())?;
         let mut memory = Memory::new(rt.alloc(), Station { id: 0 }, self.rows, 0)?;

@@ -3,8 +3,7 @@ use crate::drawing::{Drawing, plain_road};
 use crate::steps::{chart_in, desk_over};
 use chart::Chart;
 use kinds::{Station, Trims};
-use report::memory::Desk;
-use report::{Memory, Method};
+use report::{Desk, LINKS, Memory, Method, ROWS, Route};
 use std::{fs, io};
 
 // The pages that the process has in memory, as Linux tells them.
@@ -19,14 +18,14 @@ fn settle(rt: &HostRuntime) -> io::Result<()> {
     Ok(())
 }
 
-// Seeks so many times by either search, handing out each route, and answers how many times a route came.
+// Seeks so many times by the searches in turn, handing out each route, and answers how many times a route came.
 fn seeks(desk: &mut Desk<Station, Trims>, chart: &Chart, times: u32) -> usize {
     (0..times)
-        .filter(|&turn| {
-            let method = Method::ALL[turn as usize % 2];
+        .zip(Method::ALL.into_iter().cycle())
+        .filter(|&(turn, method)| {
             let start = Station { id: turn % 4 };
             let _ = method.seek(&mut desk.planner, chart, start);
-            matches!(desk.planner.hand_out(desk.out), Ok(Some(_)))
+            matches!(Route::next(&mut desk.planner, desk.out), Ok(Some(_)))
         })
         .count()
 }
@@ -42,7 +41,7 @@ pub fn soak(rt: &HostRuntime) -> anyhow::Result<()> {
     let drawing = Drawing::new(4, &roads, 3).with_guess(2, 5);
     let bytes = drawing.bytes(rt.alloc())?;
     let chart = chart_in(bytes.as_slice())?;
-    let mut memory = Memory::new(rt.alloc(), Station { id: 0 }, 512, 2000)?;
+    let mut memory = Memory::new(rt.alloc(), Station { id: 0 }, ROWS, LINKS)?;
     let mut desk = desk_over(&mut memory)?;
     let first = seeks(&mut desk, &chart, 100);
     settle(rt)?;

@@ -4,14 +4,12 @@
 
 ghost use Rattle.std.specs.Prelude.{◌<◌};
 
+use report::{LINKS, ROWS};
 use std::alloc::{AllocError, Global};
 use std::io::{BufRead, BufReader};
 
-const ROWS: usize = 512;
-
-const LINKS: usize = 2000;
-
-// What a hexadecimal digit stands for; zero for any other byte, also for a capital, which `to_digit` would take.
+// What a hexadecimal digit stands for; zero for any other byte, also for a capital, which `to_digit` would take; the library's
+// decoding would end the program there.
 fn digit(byte: u8) -> u8
     ensures { result < 16 }
 {
@@ -38,14 +36,10 @@ fn replay(rt: &HostRuntime, text: &str) -> anyhow::Result<()> {
     Ok(())
 }
 
-fn run(rt: &HostRuntime) -> anyhow::Result<()> {
+fn main(rt: HostRuntime) -> anyhow::Result<()> {
     for line in BufReader::new(rt.alloc(), rt.stdin())?.lines(rt.alloc()) {
         let text = line?;
-        replay(rt, text.as_str())?;
+        replay(&rt, text.as_str())?;
     }
     Ok(())
-}
-
-fn main(rt: HostRuntime) -> anyhow::Result<()> {
-    run(&rt)
 }

@@ -1,5 +1,6 @@
-use Rattle.std.proofs.Common.{ℕ, List, [], ◌∷◌, ◌++◌, sym, ap, ◌∙◌}
+use Rattle.std.proofs.Common.{List, [], ◌∷◌, ◌++◌, sym, ap, ◌∙◌}
 use Rattle.std.proofs.lemmas.List.{map-append}
+use Rattle.store.specs.declared.slots.Waiting.{Waiting}
 use Rattle.search.specs.Queue.{Entry}
 use Rattle.planner.specs.Views.{rows_of, entries_of, entry_of}
 use Rattle.planner.proofs.Goods.{heaped, in_rows}
@@ -18,7 +19,7 @@ invariant_of-self g c =
     let w = g.C.CostKind.weight in
     let r = c.self.inside.register in
     let h = c.self.inside.heap in
-    let x : ℕ × g.row.C.Denot × g.row.C.Denot = (c.args.at, c.in_ok-total.total, c.args.road.sum) in
+    let x : Waiting g.row.C.Denot = record { row = c.args.at; estimate = c.in_ok-total.total; cost = c.args.road.sum } in
     heaped r h c.push.new.self _ c.self.invariant c.push.ensures.rows c.push.ensures.waits
     (below_push w _ _ x (below_without w _ c.args.at h.waits c.self.invariant.waiting) (in_rows g.N.NodeKind.key w r h c.self.view_is c.requires.inside))
 
@@ -28,7 +29,7 @@ returns-clause-answer g c =
     let r = c.self.inside.register in
     let q = c.self.inside.heap.waits in
     let fit = some_if _ _ _ (rw c.in_ok-total.ensures.ok_part at c.estimate.ensures) in
-    let x : ℕ × g.row.C.Denot × g.row.C.Denot = (c.args.at, c.in_ok-total.total, c.args.road.sum) in
+    let x : Waiting g.row.C.Denot = record { row = c.args.at; estimate = c.in_ok-total.total; cost = c.args.road.sum } in
     rw (← c.self.view_is)
     (entered _ _ _ _ _ c.args.road.row c.args.road.rank (g.N.NodeKind.key c.args.road.node) (w c.args.road.sum) c.args.at (rows_of g.N.NodeKind.key w r.listed) (entries_of w q) _ (w c.in_ok-total.total)
     fit.0

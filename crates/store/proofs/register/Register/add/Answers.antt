@@ -3,4 +3,4 @@ use Rattle.store.proofs.register.Register.add.Goals as goal
 
 pub insert-requires-clause-fresh : goal.insert-requires-clause-fresh
 insert-requires-clause-fresh g c =
-    fresh_from g.N.NodeKind.key c.self.inside.rows.now c.self.inside.len (g.N.NodeKind.key c.args.node) c.self.invariant.fits c.self.invariant.single (rw (← c.self.view_is) at c.requires.fresh)
+    fresh_from _ _ _ _ c.self.invariant.fits c.self.invariant.single (rw (← c.self.view_is) at c.requires.fresh)
