@@ -7,7 +7,8 @@ ghost use Rattle.chart.specs.Verdict.{Says};
 
 use crate::refusal::ChartRefusal;
 use crate::words::{
-    GOAL, MOST_ROADS, MOST_STATIONS, road_count, road_record, station_count, station_record, word,
+    GOAL, MOST_ROADS, MOST_STATIONS, last_word, road_count, road_record, station_count,
+    station_record, word,
 };
 use graph::zones::ZONES;
 
@@ -54,7 +55,7 @@ fn station_keeps(bytes: &[u8], station: u32) -> bool
     requires { 32 + 16 * station ≤ length bytes.now }
     ensures { result ≡ station_keeps bytes.now station }
 {
-    first_keeps(bytes, station) && last_keeps(word(bytes, station_record(station) + 12))
+    first_keeps(bytes, station) && last_keeps(last_word(bytes, station_record(station)))
 }
 
 // Whether a road keeps its rule.

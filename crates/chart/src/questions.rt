@@ -3,7 +3,7 @@ ghost use Rattle.chart.specs.Meaning.{guess_in};
 ghost use Rattle.chart.specs.Lawful.{meaning_in, chart_lawful};
 
 use crate::borrowed::Chart;
-use crate::words::{GOAL, cost, word};
+use crate::words::{GOAL, cost, last_word, word};
 use graph::{Fault, Graph};
 use kinds::{CostKind, Station, Trims};
 
@@ -24,7 +24,7 @@ impl<'a> Graph for Chart<'a> {
 
     fn zone(&self, node: &Station) -> u8 {
         self.station_at(node.id)
-            .map_or(0, |at| (word(self.bytes, at + 12) % GOAL) as u8)
+            .map_or(0, |at| (last_word(self.bytes, at) % GOAL) as u8)
     }
 
     #[tactic(auto, using(crate::specs::Lawful::sizes))]
@@ -54,6 +54,6 @@ impl<'a> Graph for Chart<'a> {
 
     fn goal(&self, node: &Station) -> bool {
         self.station_at(node.id)
-            .is_some_and(|at| word(self.bytes, at + 12) >= GOAL)
+            .is_some_and(|at| last_word(self.bytes, at) >= GOAL)
     }
 }

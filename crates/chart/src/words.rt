@@ -50,6 +50,15 @@ pub(crate) fn road_count(bytes: &[u8]) -> u32
     word(bytes, 4)
 }
 
+// The last word of the record of a station: its zone, and whether it is a goal. The other words are read once each, at the place that the
+// format gives them.
+pub(crate) fn last_word(bytes: &[u8], at: usize) -> u32
+    requires { at + 16 ≤ length bytes.now }
+    ensures { result ≡ word_at bytes.now (at + 12) }
+{
+    word(bytes, at + 12)
+}
+
 // Where the record of a station begins.
 pub(crate) fn station_record(station: u32) -> usize
     ensures { result ≡ 16 + 16 * station }

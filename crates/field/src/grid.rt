@@ -15,6 +15,9 @@ use crate::refusal::FieldRefusal;
 use graph::{Fault, Graph};
 use kinds::{Cell, CostKind, Millis};
 
+// How many cells are beside a cell, each by a rank.
+const SIDES: u16 = 4;
+
 // A layout with a map that has one byte a cell, row by row: a zone (0 to 63) or solid (255). It is made in two calls, of which one
 // checks and one makes, or in one. Ghost fields say what the check passes, since a `Copy` type with a lifetime can have no
 // `impl Model`.
@@ -121,7 +124,7 @@ impl<'a> Graph for Field<'a> {
     }
 
     fn road_count(&self, node: &Cell) -> u16 {
-        if self.held(node) { 4 } else { 0 }
+        if self.held(node) { SIDES } else { 0 }
     }
 
     #[tactic(auto, using(crate::specs::Laws::column_of_key, crate::specs::Laws::row_of_key))]

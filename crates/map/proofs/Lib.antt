@@ -1,3 +1,2 @@
 pub mod Wording
 pub mod HeaderLemmas
-pub mod RowLemmas

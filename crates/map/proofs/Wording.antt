@@ -1,6 +1,6 @@
 -- The next word that comes off a text is the first of its words.
-use Rattle.std.proofs.Common.{◌≡◌, ℕ, ◌<◌, Bool, true, false, List, [], ◌∷◌, ◌++◌, length, refl, subst, sym, ◌∙◌, ap, append_assoc, append-nil, length-append, arith, Some, None, Option, MatchOption, Bor}
-use Rattle.std.specs.Prelude.{encode_utf8, encode_utf8_all, not, ◌&&◌}
+use Rattle.std.proofs.Common.{◌≡◌, ℕ, ◌<◌, true, List, [], ◌∷◌, ◌++◌, length, refl, sym, ◌∙◌, ap, append_assoc, append-nil, length-append, arith, Some, None, Option, MatchOption, Bor}
+use Rattle.std.specs.Prelude.{encode_utf8, encode_utf8_all}
 use Rattle.std.specs.Char.{is_whitespace, is_not_whitespace}
 use Rattle.std.specs.Str.{IsUtf8, NonePass, EmptyOrStartsWithPassing, all_scalars}
 use Rattle.std.specs.Str.Iter.{split_whitespace_rest, split_whitespace_steps}
@@ -17,28 +17,19 @@ begin_with (c ∷ front) cs rest e =
     let k = begin_with front h.0 rest h.2 in
     (k.0, h.1 ∙ ap (λ xs. c ∷ xs) k.1, k.2)
 
-white : (b : Bool) → not b ≡ false → b ≡ true
-white true e = refl
-white false e = cc
-
-right : (a b : Bool) → (a && b) ≡ true → b ≡ true
-right true b e = e
-right false b e = cc
-
 scalars_left : (front es : List ℕ) → all_scalars (front ++ es) ≡ true → all_scalars es ≡ true
 scalars_left [] es e = e
-scalars_left (c ∷ front) es e = scalars_left front es (right _ (all_scalars (front ++ es)) e)
+scalars_left (c ∷ front) es e = grind (arith, scalars_left front es)
 
 -- white space is passed over
 passed_over : (gap cs : List ℕ) → NonePass is_not_whitespace gap → words_after [] (gap ++ cs) ≡ words_after [] cs
 passed_over [] cs none = refl
-passed_over (c ∷ gap) cs none = rw (white (is_whitespace c) none.0) (passed_over gap cs none.1)
+passed_over (c ∷ gap) cs none = grind (arith, passed_over gap cs)
 
 -- and a word is gathered
 gathered : (word more cs : List ℕ) → NonePass is_whitespace more → words_after word (more ++ cs) ≡ words_after (word ++ more) cs
 gathered word [] cs none = ap (λ w. words_after w cs) (sym (append-nil word))
-gathered word (c ∷ more) cs none =
-    rw none.0 (gathered (word ++ c ∷ []) more cs none.1 ∙ ap (λ w. words_after w cs) (append_assoc word (c ∷ []) more))
+gathered word (c ∷ more) cs none = grind (arith, append_assoc, gathered (word ++ c ∷ []) more cs)
 
 -- up to the next white space
 ended : (word es bs more : List ℕ) → encode_utf8_all es ≡ bs → EmptyOrStartsWithPassing is_whitespace bs more → words_after word es ≡ if_any word ++ words_after [] es
@@ -51,13 +42,12 @@ ended word (c ∷ es) bs more e starts =
 
 -- a word has characters
 some_word : (word : List ℕ) → 0 < length (encode_utf8_all word) → if_any word ≡ encode_utf8_all word ∷ []
-some_word [] h = absurd (omega arith)
-some_word (c ∷ cs) h = refl
+some_word word h = grind arith
 
 -- the words of a text that is written out
 written : (cs bs : List ℕ) → IsUtf8 bs → encode_utf8_all cs ≡ bs → words bs ≡ words_after [] cs
 unfolding words
-written cs bs utf8 e = ap (λ xs. words_after [] xs) (sym (chars_from_encodes cs bs utf8 e))
+written cs bs utf8 e = rw (chars_from_encodes cs bs utf8 e) refl
 
 -- what is left after a word is a text too
 next_word : (s t : SplitWhitespace) (r : Option (Bor (List ℕ))) → IsUtf8 (split_whitespace_rest s) → split_whitespace_steps s r t → MatchOption r (words (split_whitespace_rest s) ≡ []) (λ x. (words (split_whitespace_rest s) ≡ x.now ∷ words (split_whitespace_rest t)) × IsUtf8 (split_whitespace_rest t))
@@ -86,7 +76,7 @@ gives_word s t None utf8 step = let e = next_word s t None utf8 step in (e, ap (
 gives_word s t (Some x) utf8 step = (next_word s t (Some x) utf8 step).0
 
 pub keeps_text : (s t : SplitWhitespace) (r : Option (Bor (List ℕ))) → IsUtf8 (split_whitespace_rest s) → split_whitespace_steps s r t → IsUtf8 (split_whitespace_rest t)
-keeps_text s t None utf8 step = subst (λ k. IsUtf8 (split_whitespace_rest k)) (sym step.0) utf8
+keeps_text s t None utf8 step = rw step.0 utf8
 keeps_text s t (Some x) utf8 step = (next_word s t (Some x) utf8 step).1
 
 pub fewer_left : (ws vs : List (List ℕ)) (r : Option (Bor (List ℕ))) → YieldsFirstBy {B = List ℕ} (λ word. word.now) (λ ws. ws) ws r vs → MakesProgress (λ _. Unit {0}) (item_count (λ ws. ws)) ws r vs

@@ -16,7 +16,7 @@ pub struct Canvas {
 }
 
 impl Canvas {
-    // Draws a sign at a cell.
+    // Draws a sign at a cell. A field finds the place of a cell in the same way, and keeps it to itself.
     fn mark(&mut self, cell: Cell, sign: char)
         ensures signs { self.new.signs.items ≡ marked sign self.old.columns cell self.old.signs.items }
         ensures columns { self.new.columns ≡ self.old.columns }

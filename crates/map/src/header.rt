@@ -1,5 +1,5 @@
 // The lines before the map, each a word and what it asks for.
-ghost use Rattle.std.specs.Prelude.{◌≡◌, ◌<◌, IfSome, MatchResult};
+ghost use Rattle.std.specs.Prelude.{◌≡◌, ◌<◌, nat_lt, IfSome, MatchResult};
 ghost use Rattle.std.specs.Option.{option_map};
 ghost use Rattle.map.specs.Words.{words};
 ghost use Rattle.map.specs.Headers.{size_of, cell_of, zone_of, zones_of, toll_of, SaysHeader, LacksHeader};
@@ -54,6 +54,13 @@ fn cell_line(mut words: Words) -> Option<Cell>
     Some(Cell { column, row })
 }
 
+// Whether a byte is that of a zone.
+fn is_zone(byte: u8) -> bool
+    ensures { result ≡ nat_lt byte 64 }
+{
+    (byte as usize) < ZONES
+}
+
 // The zone whose sign is the word.
 fn zone_of(word: &str) -> Option<u8>
     ensures zone { result ≡ zone_of word.now }
@@ -61,7 +68,7 @@ fn zone_of(word: &str) -> Option<u8>
 {
     let mut signs = word.chars();
     let byte = byte_of(signs.next()?)?;
-    if byte as usize >= ZONES || signs.next().is_some() {
+    if !is_zone(byte) || signs.next().is_some() {
         return None;
     }
     Some(byte)

@@ -91,6 +91,7 @@ fn read_plan(lines: &mut NumberedLines) -> Result<Option<Plan>, Problem> {
 }
 
 // Adds the bytes of a row to those of the rows above it.
+#[tactic(auto, using(std::proofs::lemmas::Str::chars_from_encodes, std::proofs::lemmas::Bool::Decides::nat_tests))]
 fn add_row(map: &mut Vec<u8>, columns: u16, line: &str) -> Result<(), Mistake>
     ensures { ReadsRow map.old.items columns line.now result map.new.items }
 {

@@ -30,6 +30,7 @@ impl<'a> Iterator for Words<'a> {
 
     ghost remaining = { item_count (λ words. words) };
 
+    #[tactic(auto, using(crate::proofs::Wording::gives_word, crate::proofs::Wording::keeps_text, crate::proofs::Wording::fewer_left))]
     fn next(&mut self) -> Option<&'a str> {
         self.rest.next()
     }

@@ -36,7 +36,7 @@ const MOST_ROWS: usize = 32768;
 
 const MOST_LINKS: usize = 65535;
 
-// Whether a planner can be made over so many rows, slots for them, and links.
+// Whether a planner can be made over so many rows, slots for them, and links: counts, for a caller who has no memory yet.
 pub fn check(rows: usize, slots: usize, links: usize) -> Result<(), MakeRefusal>
     ensures { result ≡ (if sizes_fit rows slots links then Ok tt else Err Counts) }
 {
@@ -49,6 +49,7 @@ pub fn check(rows: usize, slots: usize, links: usize) -> Result<(), MakeRefusal>
 impl<'a, N: NodeKind, C: CostKind> Planner<'a, N, C> {
     // A planner over this memory, with nothing to hand out. What the memory holds beforehand does not matter. With it a
     // history begins, and the law holds of every history.
+    #[tactic(auto, using(std::proofs::lemmas::Bool::Decides::nat_tests, search::proofs::Histories::histories_fair, search::specs::History::made))]
     pub fn make(lent: Lent<'a, N, C>) -> Planner<'a, N, C>
         requires { fit lent ≡ true }
         ensures law { Law C.kind }
@@ -63,6 +64,7 @@ impl<'a, N: NodeKind, C: CostKind> Planner<'a, N, C> {
     }
 
     // The same, where a planner can be made over this memory.
+    #[tactic(auto, using(search::proofs::Histories::histories_fair))]
     pub fn new(lent: Lent<'a, N, C>) -> Result<Planner<'a, N, C>, MakeRefusal>
         ensures law { Law C.kind }
         ensures made { MatchResult result (λ p. (fit lent.entry ≡ true) × History C.kind [] p × (p ≡ made_in lent.entry)) (λ e. (fit lent.entry ≡ false) × (e ≡ Counts)) }

@@ -50,6 +50,7 @@ fn undercuts<C: CostKind>(sum: C, cost: C) -> bool
 
 impl<'a, N: NodeKind, C: CostKind> Frontier<'a, N, C> {
     // Row `at`, that of the road's end, enters the heap in place of its older entry.
+    #[tactic(auto, using(crate::proofs::Maps::lists), unfolding(search::specs::Machine::pushed))]
     fn enter<G: Graph<Node = N, Cost = C>>(
         &mut self,
         graph: &G,
@@ -69,6 +70,7 @@ impl<'a, N: NodeKind, C: CostKind> Frontier<'a, N, C> {
     }
 
     // The road leads to a node that has no row yet.
+    #[tactic(auto, using(crate::proofs::Maps::lists), unfolding(search::specs::Machine::fresh))]
     fn found_new<G: Graph<Node = N, Cost = C>>(
         &mut self,
         graph: &G,
@@ -94,6 +96,7 @@ impl<'a, N: NodeKind, C: CostKind> Frontier<'a, N, C> {
     }
 
     // The road leads to a node that has row `at`.
+    #[tactic(auto, using(crate::proofs::Maps::lists), unfolding(search::specs::Machine::arrive, search::specs::Machine::known))]
     fn found_again<G: Graph<Node = N, Cost = C>>(
         &mut self,
         graph: &G,
@@ -117,6 +120,7 @@ impl<'a, N: NodeKind, C: CostKind> Frontier<'a, N, C> {
     }
 
     // The node that an open road leads to, at the sum of costs there.
+    #[tactic(auto, using(crate::proofs::Maps::lists), unfolding(search::specs::Machine::summed, search::specs::Machine::arrive))]
     fn arrive<G: Graph<Node = N, Cost = C>>(
         &mut self,
         graph: &G,
@@ -132,7 +136,8 @@ impl<'a, N: NodeKind, C: CostKind> Frontier<'a, N, C> {
         }
     }
 
-    // The road of a rank of a row that was taken out.
+    // The road of a rank of a row that was taken out. It refuses the sum of costs to the road's end, and `enter` that with the guess.
+    #[tactic(auto, unfolding(search::specs::Machine::relax, search::specs::Machine::summed))]
     pub(crate) fn relax<G: Graph<Node = N, Cost = C>>(
         &mut self,
         graph: &G,

@@ -22,6 +22,7 @@ pub(crate) struct Goal<C> {
 
 impl<'a, N: NodeKind, C: CostKind> Frontier<'a, N, C> {
     // The roads of a row that was taken out, in the order of their ranks.
+    #[tactic(auto, unfolding(search::specs::Machine::along))]
     fn expand<G: Graph<Node = N, Cost = C>>(
         &mut self,
         graph: &G,
@@ -40,6 +41,7 @@ impl<'a, N: NodeKind, C: CostKind> Frontier<'a, N, C> {
 
     // One turn of the search, as its definition has it. Takes the first out: a goal ends the search, and the roads of another row are followed. The search ends too where
     // none waits.
+    #[tactic(auto, using(crate::proofs::Maps::lists), unfolding(search::specs::Machine::turn, search::specs::Machine::taken))]
     fn turn<G: Graph<Node = N, Cost = C>>(
         &mut self,
         graph: &G,
@@ -61,6 +63,7 @@ impl<'a, N: NodeKind, C: CostKind> Frontier<'a, N, C> {
     }
 
     // Turns until the search ends.
+    #[tactic(auto, using(search::specs::Machine::last, search::specs::Machine::next, search::proofs::Falls::falls))]
     pub(crate) fn run<G: Graph<Node = N, Cost = C>>(
         &mut self,
         graph: &G,

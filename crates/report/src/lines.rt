@@ -63,7 +63,8 @@ fn wanted(names: &[String], method: Method) -> bool {
     names.is_empty() || names.iter().any(|name| name.parse() == Ok(method))
 }
 
-// Runs the searches that are named, or all, over a chart from station 0, with a planner of so many rows and links; and
+// Runs the searches that are named, or all, over a chart from station 0, with a planner of so many rows and links, counts that a caller
+// chooses; and
 // prints what each came to, or that the chart is refused.
 pub fn run(
     rt: &HostRuntime,

@@ -6,6 +6,7 @@ use store::register::Register;
 use store::rows::Row;
 use store::slots::Slot;
 
+// Short for what stands often below.
 fn millis(millis: u32) -> Millis {
     Millis { millis }
 }

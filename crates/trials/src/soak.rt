@@ -18,7 +18,8 @@ fn settle(rt: &HostRuntime) -> io::Result<()> {
     Ok(())
 }
 
-// Seeks so many times by the searches in turn, handing out each route, and answers how many times a route came.
+// Seeks so many times by the searches in turn, handing out each route, and answers how many times a route came. The searches run in
+// the filter, since the check does not follow them through a `map` before it.
 fn seeks(desk: &mut Desk<Station, Trims>, chart: &Chart, times: u32) -> usize {
     (0..times)
         .zip(Method::ALL.into_iter().cycle())

@@ -4,8 +4,7 @@ use Rattle.std.proofs.lemmas.List.{get_or-map}
 use Rattle.std.proofs.Math.Seq.{drop-length}
 use Rattle.search.specs.Rows.{no_row}
 use Rattle.planner.specs.Views.{row_of, rows_of}
-use Rattle.planner.proofs.Goods.{in_rows}
-use Rattle.planner.proofs.Maps.{some_of, parents_at}
+use Rattle.planner.proofs.Maps.{lists, some_of, parents_at}
 use Rattle.planner.proofs.Tracing.{left_none, left_step, left_begin}
 use Rattle.planner.proofs.frontier.Frontier.write_back.Goals as goal
 
@@ -14,7 +13,7 @@ loop-place-init g c =
     let key = g.N.NodeKind.key in
     let w = g.C.CostKind.weight in
     let rows = rows_of key w c.self.inside.register.listed in (
-      in_rows key w c.self.inside.register c.self.inside.heap c.self.view_is c.requires.inside,
+      grind (arith, lists),
       rw drop-length (left_begin rows (length rows) c.args.row (length c.args.out.now) (rw (← c.self.view_is) at c.requires.long)),
     )
 
