@@ -7,8 +7,9 @@ use crate::refusal::ChartRefusal;
 use crate::words::{road_count, road_record, station_count, station_record, word};
 use std::ops::Range;
 
-// A chart: bytes that the check passes, borrowed and never copied. It is made in two calls, of which one checks and one makes, or in
-// one. A ghost field says that the check passes, since a `Copy` type with a lifetime can have no `impl Model`.
+// A chart: bytes that the check passes, borrowed and never copied. It is made in two calls, for a caller who has checked before and
+// whose making then cannot fail, or in one. A ghost field says that the check passes, since a `Copy` type with a lifetime can have
+// no `impl Model`.
 #[derive(Clone, Copy)]
 pub struct Chart<'a> {
     pub(crate) bytes: &'a [u8],

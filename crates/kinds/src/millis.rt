@@ -14,6 +14,11 @@ pub struct Millis {
 }
 
 impl fmt::Display for Millis {
+    ghost use Rattle.std.specs.Prelude.{Some};
+    ghost use Rattle.std.specs.Fmt.{decimal};
+
+    ghost output = { λ s. Some (decimal s.millis) };
+
     fn fmt<W: fmt::Write>(&self, f: &mut fmt::Formatter<W>) -> fmt::Result {
         self.millis.fmt(f)
     }

@@ -12,6 +12,11 @@ pub struct Station {
 }
 
 impl fmt::Display for Station {
+    ghost use Rattle.std.specs.Prelude.{Some};
+    ghost use Rattle.std.specs.Fmt.{decimal};
+
+    ghost output = { λ s. Some (decimal s.id) };
+
     fn fmt<W: fmt::Write>(&self, f: &mut fmt::Formatter<W>) -> fmt::Result {
         self.id.fmt(f)
     }

@@ -18,6 +18,11 @@ pub struct Trims {
 
 // Trims, then milliseconds.
 impl fmt::Display for Trims {
+    ghost use Rattle.std.specs.Prelude.{Some, ◌++◌, codes};
+    ghost use Rattle.std.specs.Fmt.{decimal};
+
+    ghost output = { λ s. Some (decimal s.trims ++ codes " " ++ decimal s.millis) };
+
     fn fmt<W: fmt::Write>(&self, f: &mut fmt::Formatter<W>) -> fmt::Result {
         let Trims { trims, millis } = self;
         write!(f, "{trims} {millis}")

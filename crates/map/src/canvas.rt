@@ -16,7 +16,8 @@ pub struct Canvas {
 }
 
 impl Canvas {
-    // Draws a sign at a cell. A field finds the place of a cell in the same way, and keeps it to itself.
+    // Draws a sign at a cell. A field finds the place of a cell in the same way, but a canvas
+    // has no field.
     fn mark(&mut self, cell: Cell, sign: char)
         ensures signs { self.new.signs.items ≡ marked sign self.old.columns cell self.old.signs.items }
         ensures columns { self.new.columns ≡ self.old.columns }

@@ -11,6 +11,8 @@ mod mistake;
 mod reader;
 mod searches;
 mod signs;
+#[cfg(test)]
+mod tests;
 mod words;
 
 fn main(rt: HostRuntime) -> anyhow::Result<()> {

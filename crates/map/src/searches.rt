@@ -98,6 +98,7 @@ impl<R: Print + AllocGlobal> Survey<'_, R> {
         };
         match Route::next(&mut desk.planner, desk.out) {
             Ok(Some(route)) => self.print_route(Found { method, cost }, route.nodes),
+            // Not after a cost was found.
             Ok(None) => Ok(()),
             Err(refusal) => Ok(println!(self.rt; "{method} refused {}", u8::from(refusal))?),
         }

@@ -9,7 +9,8 @@ use search::HandOutRefusal;
 
 impl<'a, N: NodeKind, C: CostKind> Planner<'a, N, C> {
     // Writes the next route into the first entries, and answers its length; or answers that there is none left. A refusal
-    // writes nothing and keeps the route as the next one. The length stands beside the output, since a caller in C reads it so.
+    // writes nothing and keeps the route as the next one. The length stands beside the output, whose other entries
+    // are the caller's and stay; `report::Route::next` gives the nodes alone.
     pub fn hand_out(&mut self, out: &mut [N]) -> Result<Option<usize>, HandOutRefusal>
         ensures call { Call C.kind self.old (handed_out (length out.old) (given_of N.key result out.new)) self.new }
         ensures within { Within result (length out.old) }

@@ -13,8 +13,8 @@ use store::links::{Link, Links};
 use store::rows::Row;
 use store::slots::Slot;
 
-// Memory that is lent to a planner: rows, a slot for each, and links. Rows and slots are two slices, since a struct cannot lend two
-// parts of itself at once. Contracts see it as how much it is.
+// Memory that is lent to a planner: rows, a slot for each, and links. Rows and slots are two slices, since the register borrows the
+// one and the heap the other for as long as the planner lives. Contracts see it as how much it is.
 #[derive(Drop)]
 pub struct Lent<'a, N, C> {
     pub rows: &'a mut [Row<N, Reached<C>>],

@@ -30,6 +30,18 @@ pub(crate) struct Open<N, C> {
     sum: C,
 }
 
+impl<N: NodeKind, C: CostKind> Open<N, C> {
+    // How its end is reached by it.
+    fn reached(&self) -> Reached<C>
+        ensures { result ≡ record { cost = self.now.sum; parent = self.now.row } }
+    {
+        Reached {
+            cost: self.sum,
+            parent: self.row,
+        }
+    }
+}
+
 // A sum of costs with the guess of the cost ahead of a node: a function, so that a clause pins the estimate.
 fn estimate<N: NodeKind, C: CostKind, G: Graph<Node = N, Cost = C>>(
     graph: &G,
@@ -81,13 +93,9 @@ impl<'a, N: NodeKind, C: CostKind> Frontier<'a, N, C> {
         ensures after { After self.old self.new }
         ensures answer { result_of result self.new.state ≡ fresh C.kind (G.means graph.now) (G.guesses graph.now) self.old.capacity (nat_lt (length self.old.state.rows) self.old.capacity) road.row road.rank (N.key road.node) (C.weight road.sum) self.old.state }
     {
-        let reached = Reached {
-            cost: road.sum,
-            parent: road.row,
-        };
         let at = self
             .register
-            .add(road.node, reached)
+            .add(road.node, road.reached())
             .ok_or(SeekRefusal::NoRow {
                 row: road.row,
                 rank: road.rank,
@@ -111,11 +119,7 @@ impl<'a, N: NodeKind, C: CostKind> Frontier<'a, N, C> {
         if !undercuts(road.sum, self.register.value(at).cost) {
             return Ok(());
         }
-        let reached = Reached {
-            cost: road.sum,
-            parent: road.row,
-        };
-        self.register.set_value(at, reached);
+        self.register.set_value(at, road.reached());
         self.enter(graph, road, at)
     }
 
@@ -149,7 +153,7 @@ impl<'a, N: NodeKind, C: CostKind> Frontier<'a, N, C> {
         ensures answer { result_of result self.new.state ≡ relaxed C.kind (G.means graph.now) (G.guesses graph.now) self.old.capacity taken.row (C.weight taken.cost) rank ((G.means graph.now).road (N.key taken.node) rank) self.old.state }
     {
         let row = taken.row;
-        // Matches: with `map_err`, `ok_or` and `?` here, searches took up to twice as long (docs/BENCHMARKS.md).
+        // Matches: with `map_err`, `ok_or` and `?` here, searches took up to two and a half times as long (docs/BENCHMARKS.md).
         match graph.road(&taken.node, rank) {
             Err(fault) => Err(SeekRefusal::FaultyRoad { row, fault }),
             Ok(None) => Ok(()),

@@ -1,4 +1,4 @@
-// The way back from a row to row 0.
+// The way back from a row to row 0. Each asks that the row is in use, as the steps of `relax` do.
 ghost use Rattle.std.specs.Prelude.{◌≡◌, ◌<◌, [], map, length};
 ghost use Rattle.search.specs.Rows.{walk};
 
@@ -13,7 +13,8 @@ impl<'a, N: NodeKind, C: CostKind> Frontier<'a, N, C> {
     {
         let all = self.register.len();
         let mut at = row;
-        // The walk itself has no range; its steps are at most the rows, which shows that it ends.
+        // The walk itself has no range: its steps are at most the rows, which shows that it ends, and a closure over `successors` could not
+        // know that the row it looks at is in use.
         for depth in 1..all {
             if at == 0 {
                 return depth;

@@ -1,4 +1,4 @@
-// The turns of a search, up to its end.
+// The turns of a search, up to its end. Each says `After`, and asks that a row is in use, as the steps of `relax` do.
 ghost use Rattle.std.specs.Prelude.{◌≡◌, ◌<◌, length};
 ghost use Rattle.search.specs.Queue.{first_out};
 ghost use Rattle.search.specs.Machine.{along, turn as turns, Ends};

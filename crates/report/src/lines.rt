@@ -1,4 +1,5 @@
-// The lines that a chart's searches come to.
+// The lines that a chart's searches come to. What is refused is printed by its number where it is met, since each line has words of
+// its own.
 use crate::memory::{Desk, Memory};
 use crate::method::Method;
 use crate::route::Route;
@@ -20,6 +21,11 @@ pub struct Found<C> {
 
 // The search's name, then the cost.
 impl<C: fmt::Display> fmt::Display for Found<C> {
+    ghost use Rattle.std.specs.Prelude.{◌++◌, codes, option_map};
+    ghost use Rattle.report.specs.Names.{name_of};
+
+    ghost output = { λ found. option_map (λ text. name_of found.method ++ codes " " ++ text) (C.output found.cost) };
+
     fn fmt<W: fmt::Write>(&self, f: &mut fmt::Formatter<W>) -> fmt::Result {
         let Found { method, cost } = self;
         write!(f, "{method} {cost}")
@@ -64,8 +70,7 @@ fn wanted(names: &[String], method: Method) -> bool {
 }
 
 // Runs the searches that are named, or all, over a chart from station 0, with a planner of so many rows and links, counts that a caller
-// chooses; and
-// prints what each came to, or that the chart is refused.
+// chooses; and prints what each came to, or that the chart is refused.
 pub fn run(
     rt: &HostRuntime,
     names: &[String],

@@ -13,6 +13,7 @@ use std::error::Error;
 use std::fmt;
 use std::str::FromStr;
 
+// By matches, since the searches are a closed choice that users make by name.
 #[derive(Clone, Copy, Debug, PartialEq, Eq)]
 pub enum Method {
     Dijkstra,
@@ -33,7 +34,7 @@ impl Method {
         }
     }
 
-    // Seeks by it. A match, since the searches are a closed choice that users make by name.
+    // Seeks by it.
     pub fn seek<N: NodeKind, C: CostKind, G: Graph<Node = N, Cost = C>>(
         self,
         planner: &mut Planner<N, C>,

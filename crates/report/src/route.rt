@@ -31,6 +31,10 @@ impl<'a, N: NodeKind> Route<'a, N> {
 
 // Each node after a blank.
 impl<'a, N: fmt::Display> fmt::Display for Route<'a, N> {
+    ghost use Rattle.report.specs.Routes.{printed};
+
+    ghost output = { λ route. printed N.output route.nodes.now };
+
     fn fmt<W: fmt::Write>(&self, f: &mut fmt::Formatter<W>) -> fmt::Result {
         for node in self.nodes {
             write!(f, " {node}")?;

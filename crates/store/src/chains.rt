@@ -1,13 +1,21 @@
 // The hash chains of a register: rows of one bucket are linked from the latest to the earliest.
-ghost use Rattle.std.specs.Prelude.{◌≡◌, ℕ, ◌+◌, ◌<◌, ◌≤◌, [], ◌∷◌, ◌++◌, length, Some, None, MatchOption, ◌≢◌, slice_index_or};
+ghost use Rattle.std.specs.Prelude.{◌≡◌, ℕ, ◌+◌, ◌<◌, ◌≤◌, [], ◌∷◌, ◌++◌, length, Some, None, MatchOption, ◌≢◌, ◌==◌, slice_index_or};
 ghost use Rattle.store.specs.declared.rows.Row.{Row};
 ghost use Rattle.store.specs.Rows.{Linked, Single, found};
 
 use crate::rows::Row;
 use kinds::NodeKind;
 
-// Both functions take the rows and how many are in use, and not the register that has them: `insert` runs while the register's
-// invariant does not hold, and both say what they do by the same chains.
+// Both functions take the rows and how many are in use. As methods of the register they would say the same of its fields, and be no
+// plainer.
+
+// Whether the node of row i has the node's key: a function, so that a clause pins the test.
+fn same_at<N: NodeKind, V: Copy>(rows: &[Row<N, V>], i: usize, node: &N) -> bool
+    requires { i < length rows.now }
+    ensures { (d : Row N V) → result ≡ (N.key (slice_index_or rows.now i d).node == N.key node.now) }
+{
+    rows[i].node == *node
+}
 
 // The row of the node's key among the first n.
 pub(crate) fn seek<N: NodeKind, V: Copy>(rows: &[Row<N, V>], n: usize, node: &N) -> Option<usize>
@@ -23,7 +31,7 @@ pub(crate) fn seek<N: NodeKind, V: Copy>(rows: &[Row<N, V>], n: usize, node: &N)
     let mut end = n;
     let mut row = rows[bucket].head as usize;
     while row < end && rows[row].node.mark() as usize % rows.len() == bucket {
-        if rows[row].node == *node {
+        if same_at(rows, row, node) {
             return Some(row);
         }
         end = row;

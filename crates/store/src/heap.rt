@@ -1,5 +1,5 @@
 // A binary heap with at most one entry for a row: a list of what waits, in the order of the pushes.
-ghost use Rattle.std.specs.Prelude.{◌≡◌, ◌+◌, ◌<◌, ◌≤◌, [], length, Some, MatchOption};
+ghost use Rattle.std.specs.Prelude.{◌≡◌, ◌+◌, ◌<◌, ◌≤◌, [], length, Some, MatchOption, IfSome};
 ghost use Rattle.store.specs.Queue.{pushed, first_out, left};
 
 use crate::places::Places;
@@ -7,7 +7,8 @@ use crate::slots::{Entry, Slot, Waiting};
 use kinds::CostKind;
 use std::marker::Model;
 
-// A heap over lent slots; `count` is the number of the next push.
+// A heap over lent slots; `count` is the number of the next push. That slots are few is asked of the slice, which is no type of ours, and
+// that they stay as many each change says.
 #[derive(Drop)]
 pub struct Heap<'a, C: CostKind> {
     places: Places<'a, C>,
@@ -32,6 +33,7 @@ impl<'a, C: CostKind> Heap<'a, C> {
         requires { length slots.old ≤ 65536 }
         ensures empty { result.waits ≡ [] }
         ensures rows { result.rows ≡ length slots.old }
+        ensures next { result.next ≡ 0 }
     {
         Heap::counting_from(slots, 0)
     }
@@ -56,6 +58,7 @@ impl<'a, C: CostKind> Heap<'a, C> {
     pub fn clear(&mut self)
         ensures empty { self.new.waits ≡ [] }
         ensures rows { self.new.rows ≡ self.old.rows }
+        ensures next { self.new.next ≡ 0 }
     {
         self.places.clear();
         self.count = 0;
@@ -85,7 +88,10 @@ impl<'a, C: CostKind> Heap<'a, C> {
         ensures size { MatchOption result (length self.new.waits ≡ 0) (λ _. length self.new.waits + 1 ≡ length self.old.waits) }
         ensures first { result ≡ first_out C.weight self.old.waits }
         ensures waits { self.new.waits ≡ left result self.old.waits }
+        ensures inside { IfSome result (λ w. w.row < self.old.rows) }
+        ensures few { self.old.rows ≤ 65536 }
         ensures rows { self.new.rows ≡ self.old.rows }
+        ensures next { self.new.next ≡ self.old.next }
     {
         self.places.take_first().map(Waiting::from)
     }

@@ -1,5 +1,5 @@
 // Entries by their places, in a heap: each parent comes out before its children, the entries at 2 * p + 1 and 2 * p + 2.
-ghost use Rattle.std.specs.Prelude.{◌≡◌, ℕ, ◌+◌, ◌*◌, ◌<◌, ◌≤◌, [], length, Some, None, MatchBool, MatchOption, option_map, ◌≢◌};
+ghost use Rattle.std.specs.Prelude.{◌≡◌, ℕ, ◌+◌, ◌*◌, ◌<◌, ◌≤◌, [], length, Some, None, MatchBool, MatchOption, IfSome, option_map, ◌≢◌};
 ghost use Rattle.std.specs.List.{swap};
 ghost use Rattle.std.specs.List.Sorted.{IsPermutation};
 ghost use Rattle.store.specs.declared.slots.Entry.{Entry};
@@ -215,6 +215,8 @@ impl<'a, C: CostKind> Places<'a, C> {
         ensures first { option_map waiting result ≡ first_out C.weight (queue self.old.entries) }
         ensures queue { queue self.new.entries ≡ left (option_map waiting result) (queue self.old.entries) }
         ensures size { MatchOption result (length self.new.entries ≡ 0) (λ _. length self.new.entries + 1 ≡ length self.old.entries) }
+        ensures inside { IfSome result (λ e. e.row < self.old.rows) }
+        ensures few { self.old.rows ≤ 65536 }
         ensures rows { self.new.rows ≡ self.old.rows }
     {
         if self.len == 0 {

@@ -8,7 +8,7 @@ use kinds::NodeKind;
 use std::marker::Model;
 
 // A register over lent rows: the first `len` have the nodes as they were found. The length stands beside the rows, since they
-// are lent and nothing is allocated.
+// are lent and nothing is allocated; that rows are few is asked of the slice, and that they stay as many each change says.
 #[derive(Drop)]
 pub struct Register<'a, N: NodeKind, V: Copy> {
     rows: &'a mut [Row<N, V>],

@@ -75,7 +75,7 @@ impl<'a> Drawing<'a> {
         put_count(bytes, self.first_road(station))?;
         put(bytes, 0)?;
         put(bytes, self.guess_at(station))?;
-        // A goal in zone 0, as the format of charts has it.
+        // A goal in zone 0. The trials write the format out on their own, so that the chart's constants are tried too.
         put(bytes, if station == self.goal { 256 } else { 0 })
     }
 

@@ -55,5 +55,11 @@ pub fn layers(rt: &HostRuntime) -> anyhow::Result<()> {
         target: Cell { column: 2, row: 0 },
     };
     let map = [0u8, 7, 0];
-    piles(rt, Field::new(layout, &map)?)
+    piles(rt, Field::new(layout, &map)?)?;
+    let solid = [0u8, 7, 255];
+    seek(
+        rt,
+        "with a target that is solid",
+        &Field::new(layout, &solid)?,
+    )
 }

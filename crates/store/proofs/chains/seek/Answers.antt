@@ -17,9 +17,9 @@ loop-row-preserved g c = (
   omega (arith, c.loop-row.invariant.0, c.loop-row-test.true),
   λ k d lk e.
       let i = c.loop-row.invariant.1 k d lk e in
-      let x = (get_or c.args.rows.now c.loop-row.row c.index-rows-row-in-loop-row.result).node in
-      rw c.mark.ensures (from_next g.N.NodeKind.key g.N.NodeKind.marks g.met.N.NodeKind.alike c.requires.linked c.requires.fits c.args.node.now c.loop-row.row k d c.index-rows-row-in-loop-row-2.result c.index-rows-row-in-loop-row.result (omega (arith, c.loop-row.invariant.0))
-      (sym (g.met.N.NodeKind.equal x c.args.node.now) ∙ sym c.eq.ensures ∙ c.if-eq.false) e (rw c.mark.ensures at i.1) i.2),
+      let r = c.index-rows-row-in-loop-row.result in
+      rw c.mark.ensures (from_next g.N.NodeKind.key g.N.NodeKind.marks g.met.N.NodeKind.alike c.requires.linked c.requires.fits c.args.node.now c.loop-row.row k d r r (omega (arith, c.loop-row.invariant.0))
+      (sym (c.same_at.ensures r) ∙ c.if-same_at.false) e (rw c.mark.ensures at i.1) i.2),
 )
 
 pub returns-else-mark-rows : goal.returns-else-mark-rows

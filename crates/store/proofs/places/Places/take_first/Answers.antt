@@ -43,5 +43,7 @@ returns g c =
       first = top_out w xs n d (omega (arith, c.if-self-eq0.false)) k.fits a h;
       queue = o.queued;
       size = o.size;
+      inside = (k.placed 0 d (omega (arith, c.if-self-eq0.false))).0;
+      few = k.few;
       rows = left.2;
     }
