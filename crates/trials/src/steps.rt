@@ -1,4 +1,10 @@
 // What the trials share: a chart, a planner, and the printing of answers.
+ghost use Rattle.std.specs.Prelude.{◌≡◌, ◌≢◌, true, false, [], length, Ok, IfOk, OnOk, OnErr};
+ghost use Rattle.chart.specs.Checked.{checked};
+ghost use Rattle.search.specs.History.{History};
+ghost use Rattle.planner.specs.Making.{fit, made_in};
+ghost use Rattle.report.specs.Stock.{sizes_of};
+
 use anyhow::anyhow;
 use chart::Chart;
 use kinds::{CostKind, NodeKind};
@@ -7,7 +13,10 @@ use search::SeekRefusal;
 use std::fmt;
 
 // The chart that stands in the bytes.
-pub fn chart_in(bytes: &[u8]) -> anyhow::Result<Chart> {
+pub fn chart_in(bytes: &[u8]) -> anyhow::Result<Chart>
+    ensures chart { IfOk result (λ chart. (checked bytes.now ≡ Ok tt) × (chart.bytes.now ≡ bytes.now)) }
+    ensures refused { OnErr result (checked bytes.now ≢ Ok tt) }
+{
     Chart::try_from(bytes).map_err(|refusal| anyhow!(
         "the chart is refused by {}",
         u8::from(refusal)
@@ -15,9 +24,13 @@ pub fn chart_in(bytes: &[u8]) -> anyhow::Result<Chart> {
 }
 
 // A planner over the memory, with room for its routes.
-pub fn desk_over<N: NodeKind, C: CostKind>(
-    memory: &mut Memory<N, C>,
-) -> anyhow::Result<Desk<N, C>> {
+pub fn desk_over<N: NodeKind, C: CostKind>(memory: &mut Memory<N, C>) -> anyhow::Result<Desk<N, C>>
+    ensures begins { IfOk result (λ desk. History C.kind [] desk.planner) }
+    ensures held { IfOk result (λ desk. desk.planner ≡ made_in (sizes_of memory.old)) }
+    ensures room { IfOk result (λ desk. length desk.out.now ≡ memory.old.nodes) }
+    ensures fits { OnOk result (fit (sizes_of memory.old) ≡ true) }
+    ensures refused { OnErr result (fit (sizes_of memory.old) ≡ false) }
+{
     memory.desk().map_err(|refusal| anyhow!("the planner is refused by {}", u8::from(refusal)))
 }
 
