@@ -5,8 +5,6 @@ use Rattle.search.specs.Numbers.{seek_number, hand_out_number}
 use Rattle.planner.specs.Making.{make_number}
 use Rattle.report.specs.declared.method.Method.{Method}
 use Rattle.report.specs.declared.method.Method.TheVariants.{Dijkstra, Astar}
-use Rattle.report.specs.Names.{method_of}
-use Rattle.search.specs.Answers.{Method as Search}
 use Rattle.capi.specs.declared.told.Told.{Told}
 use Rattle.capi.specs.declared.route.Route.{Route}
 use Rattle.capi.specs.declared.route.Failure.{Failure}
@@ -15,9 +13,6 @@ use Rattle.capi.specs.declared.route.Failure.TheVariants.{NoMethod, NoMemory, No
 -- 0 is dijkstra and 1 is astar
 abbrev pub method_numbered : ℕ → Option Method
 method_numbered n = cond (n == 0) (Some Dijkstra) (cond (n == 1) (Some Astar) None)
-
-abbrev pub search_of : Method → Search
-search_of m = method_of m
 
 -- a code, and nothing else
 abbrev pub bare_code : ℕ → Told

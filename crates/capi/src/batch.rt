@@ -1,7 +1,8 @@
 // A batch of searches by one planner.
-ghost use Rattle.std.specs.Prelude.{◌≡◌, map, length, take};
+ghost use Rattle.std.specs.Prelude.{◌≡◌, map, length, take, MatchResult};
+ghost use Rattle.capi.specs.declared.route.Failure.TheVariants.{NoMemory};
 ghost use Rattle.capi.specs.Codes.{method_numbered, told_of};
-ghost use Rattle.capi.specs.Tells.{station_key, Tells, Batch as TellsBatch};
+ghost use Rattle.capi.specs.Tells.{station_key, Tells, TellsBatch};
 
 use crate::route::{Failure, Route};
 use chart::Chart;
@@ -70,6 +71,13 @@ impl<'a> Batch<'a> {
     }
 }
 
+// Memory for a planner of so many rows, with room for a route that fills `out`.
+fn memory_for(heap: Global, rows: u32, out: &[u32]) -> Result<Memory<Station, Trims>, Failure>
+    ensures { MatchResult result (λ memory. memory ≡ record { rows = rows; slots = rows; links = 0; nodes = length out.now }) (λ failure. failure ≡ NoMemory) }
+{
+    Memory::with_room(heap, START, rows as usize, 0, out.len()).map_err(|_| Failure::NoMemory)
+}
+
 // Copies the numbers of the stations.
 fn copy_out(nodes: &[Station], out: &mut [u32])
     requires { length nodes.now ≡ length out.old }
@@ -100,9 +108,7 @@ pub(crate) fn search(
         chart,
         times,
     };
-    let mut memory = Memory::with_room(heap, START, rows as usize, 0, out.len()).map_err(
-        |_| Failure::NoMemory,
-    )?;
+    let mut memory = memory_for(heap, rows, out)?;
     let Desk {
         mut planner,
         out: nodes,

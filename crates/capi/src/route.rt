@@ -8,14 +8,14 @@ use kinds::Trims;
 use planner::MakeRefusal;
 use search::{HandOutRefusal, SeekRefusal};
 
-// The cost and the number of stations of a route that was handed out: a number, since a caller in C reads it.
+// The cost and the number of stations of a route that was handed out, as `Told` has them.
 #[derive(Clone, Copy)]
 pub(crate) struct Route {
     pub(crate) cost: Trims,
     pub(crate) length: usize,
 }
 
-// Why there is no route. Each variant is made at one call, by `map_err`.
+// Why there is no route. Made by `map_err` and `ok_or`, where the calls are.
 #[derive(Clone, Copy)]
 pub(crate) enum Failure {
     NoMethod,

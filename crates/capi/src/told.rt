@@ -26,7 +26,7 @@ pub struct Told {
 
 impl Told {
     // A code without a route.
-    pub fn bare(code: u32) -> Told
+    fn bare(code: u32) -> Told
         ensures { result ≡ bare_code code }
     {
         Told {

@@ -2,7 +2,7 @@
 #![tactic(auto)]
 
 ghost use Rattle.std.specs.Prelude.{length, take};
-ghost use Rattle.capi.specs.Tells.{Batch};
+ghost use Rattle.capi.specs.Tells.{TellsBatch};
 
 use capi::Told;
 use std::alloc::Global;
@@ -17,7 +17,7 @@ pub extern "C" fn capi_seek(
     times: u32,
     out: &mut [u32],
 ) -> Told
-    ensures { Batch method bytes.now rows (length out.old) result (take result.length out.new) }
+    ensures { TellsBatch method bytes.now rows (length out.old) result (take result.length out.new) }
 {
     capi::capi_seek(heap, method, bytes, rows, times, out)
 }

@@ -1,5 +1,6 @@
 -- What a chart says as a graph, read off its bytes: the keys are the numbers of its stations.
-use Rattle.std.specs.Prelude.{ℕ, ◌+◌, ◌-◌, ◌*◌, ◌%◌, Bool, cond, ◌&&◌, List, nat_le, nat_lt}
+use Rattle.std.specs.Prelude.{ℕ, ◌+◌, ◌-◌, ◌%◌, Bool, cond, ◌&&◌, List, nat_le, nat_lt}
+use Rattle.kinds.specs.Trims.{weight_of}
 use Rattle.graph.specs.Meaning.{Road, opened, closed}
 use Rattle.chart.specs.Format.{station_count, road_count, first_road, guess_trims, guess_millis, last_word, target, road_trims, road_millis}
 
@@ -17,10 +18,6 @@ roads_end bytes k = cond (held_in bytes (k + 1)) (first_road bytes (k + 1)) (roa
 
 abbrev pub count_in : List ℕ → ℕ → ℕ
 count_in bytes k = cond (held_in bytes k) (roads_end bytes k - first_road bytes k) 0
-
--- what trims and milliseconds weigh together
-abbrev pub weight_of : (trims millis : ℕ) → ℕ
-weight_of trims millis = trims * 4294967296 + millis
 
 -- a road of the road table, as an open road
 abbrev pub opened_in : List ℕ → ℕ → Road

@@ -29,7 +29,7 @@ pub record BadRoad (bytes : List ℕ) (road : ℕ) : Type 0 where
   pub first : First (road_keeps bytes) (road_count bytes) road
 
 -- a pass says that every part keeps its rule, a refusal which is the first that does not
-abbrev pub Says : List ℕ → Result (Unit {0}) ChartRefusal → Type 0
+unfoldable pub Says : List ℕ → Result (Unit {0}) ChartRefusal → Type 0
 Says bytes (Ok _) = Keeps bytes
 Says bytes (Err Header) = header_keeps bytes ≡ false
 Says bytes (Err (Station station)) = BadStation bytes station

@@ -10,7 +10,7 @@ use crate::words::{
     GOAL, MOST_ROADS, MOST_STATIONS, last_word, road_count, road_record, station_count,
     station_record, word,
 };
-use graph::zones::ZONES;
+use graph::ZONES;
 
 // Whether the header and the length keep their rule.
 fn header_keeps(bytes: &[u8]) -> bool
@@ -84,7 +84,7 @@ fn bad_road(bytes: &[u8]) -> Option<u32>
 }
 
 // Checks that the bytes are a chart: the header and the length first, then each station, then each road.
-#[tactic(auto, unfolding(crate::specs::Checked::checked))]
+#[tactic(auto, using(crate::specs::Kept::says), unfolding(crate::specs::Checked::checked))]
 pub fn check(bytes: &[u8]) -> Result<(), ChartRefusal>
     ensures is { result ≡ checked bytes.now }
     ensures says { Says bytes.now result }

@@ -6,6 +6,7 @@ use crate::checking::check;
 use crate::refusal::ChartRefusal;
 use graph::Graph;
 use kinds::{Station, Trims};
+use std::alloc::{AllocError, Global};
 use std::test::Fail;
 
 // One station and no road.
@@ -22,6 +23,32 @@ fn changed(at: usize, byte: u8) -> Result<(), ChartRefusal>
     let mut bytes = *THREE;
     bytes[at] = byte;
     check(&bytes[..76])
+}
+
+// What the check answers, by number, of so many stations and roads whose records are all zeros.
+fn counted(heap: Global, stations: u16, roads: u16) -> Result<Result<(), u8>, AllocError> {
+    let mut bytes = Vec::new(heap);
+    for word in [stations as u32, roads as u32, 16, 16 + 16 * stations as u32] {
+        bytes.extend_from_slice(&word.to_le_bytes())?;
+    }
+    let records = vec![in heap; 0u8; 16 * stations as usize + 12 * roads as usize]?;
+    bytes.extend_from_slice(records.as_slice())?;
+    Ok(check(bytes.as_slice()).map_err(u8::from))
+}
+
+#[test]
+fn counts(rt: HostRuntime) -> Result<(), Fail> {
+    for (stations, roads, answer) in [
+        (0, 0, Err(5)),
+        (1, 4000, Ok(())),
+        (1, 4001, Err(5)),
+        (1024, 0, Ok(())),
+        (1025, 0, Err(5)),
+    ] {
+        let found = counted(rt.alloc(), stations, roads)?;
+        assert_eq!(rt; found, answer, "{stations} stations, {roads} roads");
+    }
+    Ok(())
 }
 
 #[test]
@@ -44,6 +71,8 @@ fn rules(rt: HostRuntime) {
     assert_eq!(rt; changed(28, 64), Err(ChartRefusal::Station { station: 0 }));
     assert_eq!(rt; changed(45, 2), Err(ChartRefusal::Station { station: 1 }));
     assert_eq!(rt; changed(64, 3), Err(ChartRefusal::Road { road: 0 }));
+    assert_eq!(rt; changed(48, 0).map_err(u8::from), Err(6));
+    assert_eq!(rt; changed(64, 3).map_err(u8::from), Err(6));
 }
 
 #[test]

@@ -50,8 +50,8 @@ pub(crate) fn road_count(bytes: &[u8]) -> u32
     word(bytes, 4)
 }
 
-// The last word of the record of a station: its zone, and whether it is a goal. The other words are read at the places that the format
-// gives them.
+// The last word of the record of a station: its zone, and whether it is a goal. The other words are read at the places that the
+// format gives them.
 pub(crate) fn last_word(bytes: &[u8], at: usize) -> u32
     requires { at + 16 ≤ length bytes.now }
     ensures { result ≡ word_at bytes.now (at + 12) }

@@ -1,17 +1,18 @@
 -- The guess of a field is true: every step changes one of the two distances by one.
 use Rattle.std.proofs.Common.{◌≡◌, ℕ, ◌+◌, ◌<◌, ◌≤◌, List, Ok, le_refl, arith}
+use Rattle.std.specs.Int.{abs_diff}
 use Rattle.std.proofs.lemmas.Grind.{common_steps}
 use Rattle.std.proofs.lemmas.Nat.{mul-le}
 use Rattle.graph.specs.Routes.{Weighs, ends, goes, True}
 use Rattle.field.specs.declared.layout.Layout.{Layout}
-use Rattle.field.specs.Cells.{distance, guess_at}
+use Rattle.field.specs.Cells.{guess_at}
 use Rattle.field.specs.Means.{column_of, row_of, field_meaning, field_guess}
 use Rattle.field.specs.Checking.{verdict}
 use Rattle.field.specs.Laws.{Neighbour, neighbour, held_column, column_of_key, row_of_key, few_columns}
 use Rattle.field.proofs.Passed.{passed}
 
 -- from a place that is one apart, another is farther by one at most
-one_apart : (a b c d x y : ℕ) → distance a b + distance c d ≡ 1 → distance a x + distance c y ≤ distance b x + distance d y + 1
+one_apart : (a b c d x y : ℕ) → abs_diff a b + abs_diff c d ≡ 1 → abs_diff a x + abs_diff c y ≤ abs_diff b x + abs_diff d y + 1
 one_apart a b c d x y n = omega arith
 
 module _ (l : Layout) (map : List ℕ) (few : l.columns ≤ 256) where

@@ -1,5 +1,6 @@
 -- What a field says of each cell, by column and row.
 use Rattle.std.specs.Prelude.{ℕ, ◌+◌, ◌-◌, ◌*◌, Bool, cond, not, ◌&&◌, List, Some, None, Option, ◌==◌, nat_lt, slice_index}
+use Rattle.std.specs.Int.{abs_diff}
 use Rattle.kinds.specs.Cell.{cell_key}
 use Rattle.graph.specs.Meaning.{Road, opened, closed}
 use Rattle.field.specs.declared.layout.Layout.{Layout}
@@ -41,10 +42,6 @@ road_at l map column row rank = to_cell l map (beside column row rank)
 abbrev pub target_at : Layout → (column row : ℕ) → Bool
 target_at l column row = column == l.target.column && row == l.target.row
 
--- how far two columns, or two rows, are apart
-abbrev pub distance : ℕ → ℕ → ℕ
-distance a b = (a - b) + (b - a)
-
--- the guess at a cell: its distance from the target in columns and in rows, at one step each
+-- the guess at a cell: how far it is from the target in columns and in rows, at one step each
 abbrev pub guess_at : Layout → (column row : ℕ) → ℕ
-guess_at l column row = (distance column l.target.column + distance row l.target.row) * l.step
+guess_at l column row = (abs_diff column l.target.column + abs_diff row l.target.row) * l.step

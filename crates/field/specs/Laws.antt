@@ -1,5 +1,6 @@
 -- A field keeps the laws of graphs.
 use Rattle.std.specs.Prelude.{◌≡◌, ℕ, ◌+◌, ◌*◌, ◌<◌, ◌≤◌, Bool, true, cond, List, Some, None, Option, slice_index, refl}
+use Rattle.std.specs.Int.{abs_diff}
 use Rattle.std.proofs.Common.{arith}
 use Rattle.std.proofs.lemmas.Grind.{common_steps}
 use Rattle.std.proofs.lemmas.Nat.{div-mul-add, mod-mul-add}
@@ -7,7 +8,7 @@ use Rattle.kinds.specs.Cell.{cell_key}
 use Rattle.graph.specs.Meaning.{opened, closed, Lawful}
 use Rattle.field.specs.declared.layout.Layout.{Layout}
 use Rattle.field.specs.Checking.{in_range, is_cell}
-use Rattle.field.specs.Cells.{held_at, beside, to_cell, road_at, distance}
+use Rattle.field.specs.Cells.{held_at, beside, to_cell, road_at}
 use Rattle.field.specs.Means.{column_of, row_of, field_meaning, field_guess}
 
 -- the column and the row of a cell's key are the cell's
@@ -31,7 +32,7 @@ pub record Neighbour (l : Layout) (map : List ℕ) (column row to w : ℕ) : Typ
   pub to_column : ℕ
   pub to_row : ℕ
   pub steps : Steps l map to_column to_row to w
-  pub near : distance column to_column + distance row to_row ≡ 1
+  pub near : abs_diff column to_column + abs_diff row to_row ≡ 1
 
 pub neighbour : (l : Layout) (map : List ℕ) (column row rank to w : ℕ) → road_at l map column row rank ≡ opened to w → Neighbour l map column row to w
 neighbour l map column row rank to w e = by (beside column row rank) refl e

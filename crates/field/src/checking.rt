@@ -4,7 +4,7 @@ ghost use Rattle.field.specs.Checking.{is_cell, first_wrong, verdict};
 
 use crate::layout::Layout;
 use crate::refusal::FieldRefusal;
-use graph::zones::ZONES;
+use graph::is_zone;
 
 // The byte of a solid cell.
 pub const SOLID: u8 = 255;
@@ -13,7 +13,7 @@ pub const SOLID: u8 = 255;
 fn is_cell(byte: u8) -> bool
     ensures { result ≡ is_cell byte }
 {
-    (byte as usize) < ZONES || byte == SOLID
+    is_zone(byte) || byte == SOLID
 }
 
 // The first position of a byte that is neither a zone nor solid.

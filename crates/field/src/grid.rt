@@ -19,8 +19,8 @@ use kinds::{Cell, CostKind, Millis};
 const SIDES: u16 = 4;
 
 // A layout with a map that has one byte a cell, row by row: a zone (0 to 63) or solid (255). It is made in two calls, for a caller
-// who has checked before and whose making then cannot fail, or in one. Ghost fields say what the check passes, since a `Copy` type with a lifetime can have no
-// `impl Model`.
+// who has checked before and whose making then cannot fail, or in one. Ghost fields say what the check passes, since a `Copy` type
+// with a lifetime can have no `impl Model`.
 #[derive(Clone, Copy)]
 pub struct Field<'a> {
     layout: Layout,

@@ -4,9 +4,10 @@ use Rattle.std.proofs.lemmas.Bool.{cases_lt}
 use Rattle.kinds.specs.Kind.{Kind}
 use Rattle.graph.specs.Meaning.{opened, Meaning}
 use Rattle.graph.specs.Routes.{Step, Weighs, ends, goes, True}
-use Rattle.graph.specs.Fenced.{bars, fenced, fenced_guess}
+use Rattle.graph.specs.Zones.{in_table}
+use Rattle.graph.specs.Fenced.{fenced, fenced_guess}
 use Rattle.graph.specs.Tolled.{tolled}
-use Rattle.graph.specs.Layers.{fenced_road_lem, tolled_road_lem}
+use Rattle.graph.specs.Layers.{fenced_opened, tolled_opened}
 
 -- where there is an open road, it cannot be that none of at most its weight is lightest
 lightest : (M : Meaning) (a b : ℕ) (fuel rank v : ℕ) → v < fuel → M.road a rank ≡ opened b v → ((u : ℕ) → u ≤ v → Step M a b u → ⊥) → ⊥
@@ -18,7 +19,7 @@ lightest M a b (suc fuel) rank v h e never =
 tolled_weighs : (K : Kind) (charged : List Bool) (toll : ℕ) (M : Meaning) {k w : ℕ} {ks : List ℕ} → Weighs (tolled K charged toll M) k ks w → ((u : ℕ) → u ≤ w → Weighs M k ks u → ⊥) → ⊥
 tolled_weighs K charged toll M (ends h g) never = never 0 (omega arith) (ends h g)
 tolled_weighs K charged toll M (goes {k} {to} {w} {v} h s r) never =
-    let o = tolled_road_lem K charged toll M s.rank (M.road k s.rank) to w s.is in
+    let o = tolled_opened K charged toll M s.rank (M.road k s.rank) to w s.is in
     lightest M k to (suc o.0) s.rank o.0 (omega arith) o.2
     (λ u le s'. tolled_weighs K charged toll M r (λ u' le' r'. never (u + u') (omega (arith, o.1)) (goes h s' r')))
 
@@ -32,15 +33,15 @@ fenced_yes b h = grind arith
 
 fenced_step : (barred : List Bool) (M : Meaning) (a b w : ℕ) → Step (fenced barred M) a b w → Step M a b w
 fenced_step barred M a b w s =
-    let o = fenced_road_lem barred M a (M.road a s.rank) b w s.is in
+    let o = fenced_opened barred M a (M.road a s.rank) b w s.is in
     record { rank = s.rank; is = o.0; least = λ rank' w' e. s.least rank' w' (rw (o.1, e, o.2)) }
 
 -- a route past a fence is a route below, of the same weight
 pub fenced_weighs : (barred : List Bool) (M : Meaning) {k w : ℕ} {ks : List ℕ} → Weighs (fenced barred M) k ks w → Weighs M k ks w
-fenced_weighs barred M (ends {k} h g) = ends (fenced_yes (bars barred M k) h).0 (fenced_yes (bars barred M k) g).0
+fenced_weighs barred M (ends {k} h g) = ends (fenced_yes (in_table barred M k) h).0 (fenced_yes (in_table barred M k) g).0
 fenced_weighs barred M (goes {k} {to} {w} h s r) =
-    goes (fenced_yes (bars barred M k) h).0 (fenced_step barred M k to w s) (fenced_weighs barred M r)
+    goes (fenced_yes (in_table barred M k) h).0 (fenced_step barred M k to w s) (fenced_weighs barred M r)
 
 pub fenced_true : (barred : List Bool) (M : Meaning) (guess : ℕ → ℕ) → True M guess → True (fenced barred M) (fenced_guess barred M guess)
 fenced_true barred M guess t k ks w h r =
-    let le = t k ks w (fenced_yes (bars barred M k) h).0 (fenced_weighs barred M r) in grind arith
+    let le = t k ks w (fenced_yes (in_table barred M k) h).0 (fenced_weighs barred M r) in grind arith

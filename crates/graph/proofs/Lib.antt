@@ -1,3 +1,4 @@
 pub mod Below
 pub mod Kept
+pub mod Laid
 pub mod Routes

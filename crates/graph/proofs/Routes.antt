@@ -4,9 +4,10 @@ use Rattle.std.specs.List.{slice_get}
 use Rattle.kinds.specs.Kind.{Kind}
 use Rattle.graph.specs.Meaning.{Meaning}
 use Rattle.graph.specs.Routes.{Step, Weighs, ends, goes}
-use Rattle.graph.specs.Fenced.{bars, fenced}
+use Rattle.graph.specs.Zones.{in_table}
+use Rattle.graph.specs.Fenced.{fenced}
 use Rattle.graph.specs.Tolled.{tolled}
-use Rattle.graph.specs.Layers.{fenced_road_lem, tolled_road_lem}
+use Rattle.graph.specs.Layers.{fenced_opened, tolled_opened}
 use Rattle.graph.specs.Past.{Unbarred, FencesPartRoutes, TollsAddWeight}
 use Rattle.graph.proofs.Below.{fenced_yes, fenced_weighs}
 
@@ -16,16 +17,16 @@ begins M (ends h g) = refl
 begins M (goes h s r) = refl
 
 unbarred : (barred : List Bool) (M : Meaning) {k w : ℕ} {ks : List ℕ} → Weighs (fenced barred M) k ks w → Unbarred barred M ks
-unbarred barred M (ends {k} h g) = ((fenced_yes (bars barred M k) h).1, tt)
-unbarred barred M (goes {k} h s r) = ((fenced_yes (bars barred M k) h).1, unbarred barred M r)
+unbarred barred M (ends {k} h g) = ((fenced_yes (in_table barred M k) h).1, tt)
+unbarred barred M (goes {k} h s r) = ((fenced_yes (in_table barred M k) h).1, unbarred barred M r)
 
-first_unbarred : (barred : List Bool) (M : Meaning) {k w : ℕ} {ks : List ℕ} → Weighs M k ks w → Unbarred barred M ks → bars barred M k ≡ false
+first_unbarred : (barred : List Bool) (M : Meaning) {k w : ℕ} {ks : List ℕ} → Weighs M k ks w → Unbarred barred M ks → in_table barred M k ≡ false
 first_unbarred barred M (ends h g) u = u.0
 first_unbarred barred M (goes h s r) u = u.0
 
-past_step : (barred : List Bool) (M : Meaning) (a b w : ℕ) → bars barred M a ≡ false → bars barred M b ≡ false → Step M a b w → Step (fenced barred M) a b w
+past_step : (barred : List Bool) (M : Meaning) (a b w : ℕ) → in_table barred M a ≡ false → in_table barred M b ≡ false → Step M a b w → Step (fenced barred M) a b w
 past_step barred M a b w ha hb s =
-    record { rank = s.rank; is = rw (ha, s.is, hb); least = λ rank' w' e. s.least rank' w' (fenced_road_lem barred M a (M.road a rank') b w' e).0 }
+    record { rank = s.rank; is = rw (ha, s.is, hb); least = λ rank' w' e. s.least rank' w' (fenced_opened barred M a (M.road a rank') b w' e).0 }
 
 past : (barred : List Bool) (M : Meaning) {k w : ℕ} {ks : List ℕ} → Weighs M k ks w → Unbarred barred M ks → Weighs (fenced barred M) k ks w
 past barred M (ends {k} h g) u = ends (rw u.0 h) (rw u.0 g)
@@ -41,7 +42,7 @@ adds K charged toll M (ends h g) (goes h' s' r') = let z = begins M r' in cc
 adds K charged toll M (goes h s r) (ends h' g') = let z = begins (tolled K charged toll M) r in cc
 adds K charged toll M (goes {k} {to} {w} h s r) (goes {to = to'} {w = w'} h' s' r') =
     let e : to ≡ to' = cc (begins (tolled K charged toll M) r, begins M r') in
-    let o = tolled_road_lem K charged toll M s.rank (M.road k s.rank) to w s.is in
+    let o = tolled_opened K charged toll M s.rank (M.road k s.rank) to w s.is in
     omega (arith, o.1, s'.least s.rank o.0 (cc o.2), adds K charged toll M r r')
 
 pub tolls_add_weight : TollsAddWeight

@@ -3,8 +3,10 @@ pub mod Answers
 pub mod Routes
 pub mod Unguided
 pub mod Deeper
+pub mod Zones
 pub mod Fenced
 pub mod Tolled
 pub mod Layers
+pub mod Laid
 pub mod Pile
 pub mod Past

@@ -1,15 +1,16 @@
 -- What fences and tolls do to routes.
-use Rattle.std.specs.Prelude.{◌≡◌, ℕ, ◌≤◌, Bool, false, List, [], ◌∷◌}
+use Rattle.std.specs.Prelude.{◌≡◌, ℕ, ◌≤◌, Bool, false, List}
+use Rattle.std.specs.List.{AllByRecursion}
 use Rattle.kinds.specs.Kind.{Kind}
 use Rattle.graph.specs.Meaning.{Meaning}
 use Rattle.graph.specs.Routes.{Weighs}
-use Rattle.graph.specs.Fenced.{bars, fenced}
+use Rattle.graph.specs.Zones.{in_table}
+use Rattle.graph.specs.Fenced.{fenced}
 use Rattle.graph.specs.Tolled.{tolled}
 
 -- none of the keys is barred
 abbrev pub Unbarred : List Bool → Meaning → List ℕ → Type 0
-Unbarred barred M [] = Unit {0}
-Unbarred barred M (k ∷ ks) = (bars barred M k ≡ false) × Unbarred barred M ks
+Unbarred barred M ks = AllByRecursion (λ k. in_table barred M k ≡ false) ks
 
 -- the routes past a fence are the routes below that meet no barred key, and weigh the same
 abbrev pub FencesPartRoutes : Type 0

@@ -22,5 +22,5 @@ PilesKeepTruth =
 -- a pile over a pile is a pile over the bottom graph
 abbrev pub PilesNest : Type 0
 PilesNest =
-    (K : Kind) (bottom : Meaning) (bottom_guess : ℕ → ℕ) (middle : Meaning) (middleGuess : ℕ → ℕ) (M : Meaning) (guess : ℕ → ℕ) →
-    Pile K bottom bottom_guess middle middleGuess → Pile K middle middleGuess M guess → Pile K bottom bottom_guess M guess
+    (K : Kind) (bottom : Meaning) (bottom_guess : ℕ → ℕ) (middle : Meaning) (middle_guess : ℕ → ℕ) (M : Meaning) (guess : ℕ → ℕ) →
+    Pile K bottom bottom_guess middle middle_guess → Pile K middle middle_guess M guess → Pile K bottom bottom_guess M guess

@@ -1,13 +1,10 @@
 -- A graph under a toll: every open road whose end is in a charged zone costs the toll more, and is faulty where the sum
 -- does not fit.
-use Rattle.std.specs.Prelude.{ℕ, ◌+◌, Bool, false, cond, List, slice_index_or}
+use Rattle.std.specs.Prelude.{ℕ, ◌+◌, Bool, cond, List}
 use Rattle.kinds.specs.Kind.{Kind}
 use Rattle.graph.specs.Meaning.{Road, opened, closed, faulty, Meaning}
 use Rattle.graph.specs.Deeper.{deeper}
-
--- whether the table charges the zone of a key
-abbrev pub charges : List Bool → Meaning → ℕ → Bool
-charges charged M k = slice_index_or charged (M.zone k) false
+use Rattle.graph.specs.Zones.{in_table}
 
 -- an open road of a rank with the toll added to its weight
 abbrev pub dearer : Kind → (toll rank to w : ℕ) → Road
@@ -15,7 +12,7 @@ dearer K toll rank to w = cond (K.fits w toll) (opened to (w + toll)) (faulty (r
 
 -- a road of the graph below, dearer where it leads to a charged key
 abbrev pub tolled_road : Kind → List Bool → ℕ → Meaning → ℕ → Road → Road
-tolled_road K charged toll M rank (opened to w) = cond (charges charged M to) (dearer K toll rank to w) (opened to w)
+tolled_road K charged toll M rank (opened to w) = cond (in_table charged M to) (dearer K toll rank to w) (opened to w)
 tolled_road K charged toll M rank closed = closed
 tolled_road K charged toll M rank (faulty f) = faulty (deeper f)
 

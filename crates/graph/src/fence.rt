@@ -1,6 +1,7 @@
 // A fence over a graph.
 ghost use Rattle.std.specs.Prelude.{◌≡◌, ℕ, Bool};
-ghost use Rattle.graph.specs.Fenced.{bars, fenced, fenced_guess};
+ghost use Rattle.graph.specs.Zones.{in_table};
+ghost use Rattle.graph.specs.Fenced.{fenced, fenced_guess};
 ghost use Rattle.graph.specs.Layers.{fenced_lawful};
 
 use crate::fault::Fault;
@@ -26,7 +27,7 @@ impl<G: Graph> Fence<G> {
 
     // Whether the node's zone is barred: a name for what all six answers ask.
     fn bars(&self, node: &G::Node) -> bool
-        ensures { result ≡ bars self.now.barred (G.means self.now.below) (G.Node.key node.now) }
+        ensures { result ≡ in_table self.now.barred (G.means self.now.below) (G.Node.key node.now) }
     {
         zone_in(&self.barred, &self.below, node)
     }
@@ -48,10 +49,12 @@ impl<G: Graph> Graph for Fence<G> {
     }
 
     fn zone(&self, node: &G::Node) -> u8 {
-        if self.bars(node) {
+        // Asked once, since each fence of a pile asks the graph below.
+        let zone = self.below.zone(node);
+        if self.barred[zone as usize] {
             return 0;
         }
-        self.below.zone(node)
+        zone
     }
 
     fn road_count(&self, node: &G::Node) -> u16 {

@@ -3,6 +3,7 @@
 
 pub mod fault;
 pub mod fence;
+pub mod layers;
 pub mod piles;
 pub mod questions;
 pub mod toll;
@@ -11,7 +12,8 @@ pub mod zones;
 
 pub use fault::Fault;
 pub use fence::Fence;
+pub use layers::{Layer, Layers};
 pub use questions::Graph;
 pub use toll::Toll;
 pub use unguided::Unguided;
-pub use zones::{Zones, only};
+pub use zones::{ZONES, Zones, is_zone, only};

@@ -30,14 +30,19 @@ impl<C: CostKind, G: Graph<Cost = C>> Toll<G, C> {
             charged,
         }
     }
+}
 
-    // The open road of a rank to a node with the toll added to its cost: a function of its own, so that one answer proves it.
-    fn dearer(&self, rank: u16, to: G::Node, cost: C) -> Result<Option<(G::Node, C)>, Fault>
-        ensures { road_of G.Node.key C.weight result ≡ dearer C.kind (C.weight self.now.cost) rank (G.Node.key to) (C.weight cost) }
-    {
-        let sum = cost.sum(self.cost).ok_or(Fault { rank, depth: 0 })?;
-        Ok(Some((to, sum)))
-    }
+// The open road of a rank to a node with the toll added to its cost: a function of its own, so that a clause pins the sum.
+pub(crate) fn dearer<N: NodeKind, C: CostKind>(
+    toll: C,
+    rank: u16,
+    to: N,
+    cost: C,
+) -> Result<Option<(N, C)>, Fault>
+    ensures { road_of N.key C.weight result ≡ dearer C.kind (C.weight toll) rank (N.key to) (C.weight cost) }
+{
+    let sum = cost.sum(toll).ok_or(Fault { rank, depth: 0 })?;
+    Ok(Some((to, sum)))
 }
 
 impl<C: CostKind, G: Graph<Cost = C>> Graph for Toll<G, C> {
@@ -68,7 +73,7 @@ impl<C: CostKind, G: Graph<Cost = C>> Graph for Toll<G, C> {
             return Ok(None);
         };
         if zone_in(&self.charged, &self.below, &to) {
-            return self.dearer(rank, to, cost);
+            return dearer(self.cost, rank, to, cost);
         }
         Ok(Some((to, cost)))
     }

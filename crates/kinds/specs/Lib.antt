@@ -1,3 +1,4 @@
 pub mod Kind
 pub mod Cell
+pub mod Millis
 pub mod Trims

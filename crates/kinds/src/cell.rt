@@ -1,6 +1,6 @@
 // Cells: nodes by column and row.
 ghost use Rattle.std.specs.Prelude.{◌≡◌, ℕ, ◌+◌, ◌*◌, ◌≤◌};
-ghost use Rattle.kinds.specs.Cell.{cell_key};
+ghost use Rattle.kinds.specs.Cell.{cell_key, cell_mark};
 ghost use Rattle.std.proofs.Common.{rules};
 
 use crate::node_kind::NodeKind;
@@ -16,13 +16,13 @@ pub struct Cell {
 impl NodeKind for Cell {
     ghost key = { λ c. cell_key c.column c.row };
 
-    ghost marks = { λ c. cell_key c.column c.row };
+    ghost marks = { λ c. cell_mark c.column c.row };
 
     ghost equal = { Prim.search rules };
 
     ghost alike = { Prim.search rules };
 
     fn mark(&self) -> u32 {
-        self.row as u32 * 65536 + self.column as u32
+        self.row as u32 * 257 + self.column as u32
     }
 }

@@ -1,7 +1,7 @@
 // What a cost kind is: a weight for each cost, by which costs are ordered, and which sums fit.
 ghost use Rattle.std.specs.Prelude.{◌≡◌, ℕ, ◌+◌, ◌≤◌, true, if◌then◌else◌, Some, None};
 ghost use Rattle.std.specs.Ordering.{nat_cmp};
-ghost use Rattle.kinds.specs.Kind.{Kind, sum_of};
+ghost use Rattle.kinds.specs.Kind.{Kind, Bounded, sum_of};
 
 pub trait CostKind: Copy + Ord {
     // What a cost weighs; which two weights have a sum that fits, and what the greatest cost weighs.
@@ -28,7 +28,7 @@ pub trait CostKind: Copy + Ord {
     ghost most: { (a : Self) → weight a ≤ kind.greatest };
 
     // No sum that fits outweighs the greatest.
-    ghost bound: { (a b : ℕ) → kind.fits a b ≡ true → a + b ≤ kind.greatest };
+    ghost bound: { Bounded kind };
 
     // Zero plus a cost fits on either side, and so does every sum weighing at most 65,535.
     ghost zero_first: { (a : Self) → kind.fits 0 (weight a) ≡ true };

@@ -1,6 +1,6 @@
 // Milliseconds: a cost of one part.
-ghost use Rattle.std.specs.Prelude.{◌≡◌, ℕ, ◌+◌, ◌≤◌, nat_le};
-ghost use Rattle.kinds.specs.Kind.{kind};
+ghost use Rattle.std.specs.Prelude.{◌≡◌, ℕ, ◌+◌, ◌≤◌};
+ghost use Rattle.kinds.specs.Millis.{millis_kind};
 ghost use Rattle.std.proofs.Common.{rules, arith};
 
 use crate::cost_kind::CostKind;
@@ -27,7 +27,7 @@ impl fmt::Display for Millis {
 impl CostKind for Millis {
     ghost weight = { λ c. c.millis };
 
-    ghost kind = { kind (λ a b. nat_le (a + b) 4294967295) 4294967295 };
+    ghost kind = { millis_kind };
 
     ghost ordered = { Prim.search rules };
 

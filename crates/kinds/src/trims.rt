@@ -1,7 +1,6 @@
 // Trims with milliseconds: a cost of two parts, of which a trim outweighs all milliseconds.
-ghost use Rattle.std.specs.Prelude.{◌≡◌, ℕ, ◌+◌, ◌*◌, ◌≤◌};
-ghost use Rattle.kinds.specs.Kind.{kind};
-ghost use Rattle.kinds.specs.Trims.{both_fit};
+ghost use Rattle.std.specs.Prelude.{◌≡◌, ℕ, ◌+◌, ◌≤◌};
+ghost use Rattle.kinds.specs.Trims.{weight_of, trims_kind};
 ghost use Rattle.std.proofs.Common.{rules, arith};
 
 use crate::cost_kind::CostKind;
@@ -30,9 +29,9 @@ impl fmt::Display for Trims {
 }
 
 impl CostKind for Trims {
-    ghost weight = { λ c. c.trims * 4294967296 + c.millis };
+    ghost weight = { λ c. weight_of c.trims c.millis };
 
-    ghost kind = { kind both_fit 18446744073709551615 };
+    ghost kind = { trims_kind };
 
     ghost ordered = { Prim.search rules };
 

@@ -1,2 +1,6 @@
 pub mod Wording
 pub mod HeaderLemmas
+pub mod Lining
+pub mod ReadingLemmas
+pub mod OneReading
+pub mod Surveyed

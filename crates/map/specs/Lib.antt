@@ -3,4 +3,9 @@ pub mod Picture
 pub mod Words
 pub mod Headers
 pub mod Rows
+pub mod Plans
 pub mod Headings
+pub mod Lines
+pub mod Readings
+pub mod Ground
+pub mod Reasons

@@ -5,7 +5,8 @@ use Rattle.std.specs.Prelude.{ℕ, ◌+◌, ◌-◌, Bool, cond, ◌&&◌, Some,
 abbrev pub between : ℕ → ℕ → ℕ → Bool
 between low high n = nat_le low n && nat_le n high
 
--- the byte of a sign: '#' is solid, '.' zone 0, '1' to '9' the zones 1 to 9, 'a' to 'z' 10 to 35, 'A' to 'Z' 36 to 61, '+' 62, '-' 63
+-- the byte of a sign: '#' is solid, '.' zone 0, '1' to '9' the zones 1 to 9, 'a' to 'z' 10 to 35,
+-- 'A' to 'Z' 36 to 61, '+' 62, '-' 63
 abbrev pub byte_of : ℕ → Option ℕ
 byte_of sign =
     cond (sign == 35) (Some 255)

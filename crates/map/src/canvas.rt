@@ -52,7 +52,7 @@ impl Canvas {
         ensures signs { IfOk result (λ c. c.signs.items ≡ picture drawing.now.plan.layout.columns drawing.now.plan.start drawing.now.plan.layout.target route.now drawing.now.map.items) }
         ensures columns { IfOk result (λ c. c.columns ≡ drawing.now.plan.layout.columns) }
     {
-        let plan = drawing.plan;
+        let plan = &drawing.plan;
         let mut canvas = Canvas::plain(heap, plan.layout.columns, drawing.map.as_slice())?;
         canvas.mark_all(route, '*');
         canvas.mark(plan.layout.target, '!');

@@ -1,7 +1,8 @@
 // A field as it was drawn.
 use field::Layout;
-use graph::Zones;
+use graph::{Layer, Zones};
 use kinds::{Cell, Millis};
+use std::marker::Model;
 
 // A cost, and the zones that it is asked for.
 #[derive(Clone, Copy)]
@@ -10,13 +11,20 @@ pub struct Charge {
     pub zones: Zones,
 }
 
-// What the lines before the map say: zones that a fence bars, and zones that a toll charges.
-#[derive(Clone, Copy)]
+// What the lines before the map say: a field, where routes over it begin, and the fences and tolls that lie over it, the lowest first.
+#[derive(Drop)]
 pub struct Plan {
     pub layout: Layout,
     pub start: Cell,
-    pub fence: Option<Zones>,
-    pub toll: Option<Charge>,
+    pub layers: Vec<Layer<Millis>>,
+}
+
+impl Model for Plan {
+    ghost use Rattle.map.specs.Plans.{Planned};
+
+    ghost Value = { Planned };
+
+    ghost view = { λ p. record { layout = p.layout; start = p.start; layers = p.layers.items } };
 }
 
 // A plan and the map's bytes, one a cell, row by row.

@@ -1,5 +1,5 @@
 // The lines before the map, each a word and what it asks for.
-ghost use Rattle.std.specs.Prelude.{◌≡◌, ◌<◌, nat_lt, IfSome, MatchResult};
+ghost use Rattle.std.specs.Prelude.{◌≡◌, ◌<◌, IfSome, MatchResult};
 ghost use Rattle.std.specs.Option.{option_map};
 ghost use Rattle.map.specs.Words.{words};
 ghost use Rattle.map.specs.Headers.{size_of, cell_of, zone_of, zones_of, toll_of, SaysHeader, LacksHeader};
@@ -8,7 +8,7 @@ use crate::drawing::Charge;
 use crate::mistake::Mistake;
 use crate::signs::byte_of;
 use crate::words::Words;
-use graph::zones::{ZONES, Zones};
+use graph::{ZONES, Zones, is_zone};
 use kinds::{Cell, Millis};
 use std::str::FromStr;
 
@@ -52,13 +52,6 @@ fn cell_line(mut words: Words) -> Option<Cell>
     let row = words.number()?;
     words.end()?;
     Some(Cell { column, row })
-}
-
-// Whether a byte is that of a zone.
-fn is_zone(byte: u8) -> bool
-    ensures { result ≡ nat_lt byte 64 }
-{
-    (byte as usize) < ZONES
 }
 
 // The zone whose sign is the word.

@@ -7,6 +7,7 @@ use std::io;
 mod canvas;
 mod drawing;
 mod header;
+mod lines;
 mod mistake;
 mod reader;
 mod searches;

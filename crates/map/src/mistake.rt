@@ -44,8 +44,8 @@ pub enum Mistake {
     // The drawing goes on after its last row.
     #[error("expected {rows} rows, and nothing after them")]
     Long { rows: u16 },
-    // There is no memory for the map.
-    #[error("no memory for the map")]
+    // There is no memory for the layers or the map.
+    #[error("no memory for the drawing")]
     Memory,
 }
 

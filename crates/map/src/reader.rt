@@ -1,31 +1,35 @@
 // A drawing read line by line.
-ghost use Rattle.std.specs.Prelude.{◌≡◌, MatchOption};
+ghost use Rattle.std.specs.Prelude.{◌≡◌, ◌⊎◌, [], MatchOption, MatchResult};
+ghost use Rattle.map.specs.declared.mistake.Mistake.TheVariants.{Memory};
 ghost use Rattle.map.specs.Rows.{ReadsRow};
+ghost use Rattle.map.specs.Plans.{Said};
 ghost use Rattle.map.specs.Headings.{plan_of, TakesHeader};
+ghost use Rattle.map.specs.Readings.{no_heading, TakesHeading, ReadsPlan, rows_read, end_read, Reads, HasOneReading};
 
 use crate::drawing::{Charge, Drawing, Plan};
 use crate::header::{Header, Size};
+use crate::lines::NumberedLines;
 use crate::mistake::{Mistake, Problem};
 use crate::signs::byte_of;
 use field::Layout;
-use graph::Zones;
-use kinds::Cell;
+use graph::Layer;
+use kinds::{Cell, Millis};
 use std::alloc::Global;
-use std::iter::Zip;
-use std::ops::RangeInclusive;
-use std::str::Lines;
-
-// The lines of a text that are left, each with its number from 1.
-type NumberedLines<'a> = Zip<Lines<'a>, RangeInclusive<usize>>;
+use std::marker::Model;
 
 // What the lines before the map have said so far.
-#[derive(Clone, Copy, Default)]
+#[derive(Drop)]
 struct Heading {
     size: Option<Size>,
     start: Option<Cell>,
     target: Option<Cell>,
-    fence: Option<Zones>,
-    toll: Option<Charge>,
+    layers: Vec<Layer<Millis>>,
+}
+
+impl Model for Heading {
+    ghost Value = { Said };
+
+    ghost view = { λ h. record { size = h.size; start = h.start; target = h.target; layers = h.layers.items } };
 }
 
 // Keeps what a line says, if no line of its word came before.
@@ -40,9 +44,20 @@ fn keep<T: Copy>(place: &mut Option<T>, value: T) -> Result<(), Mistake>
 }
 
 impl Heading {
+    fn new(heap: Global) -> Heading
+        ensures { result ≡ no_heading }
+    {
+        Heading {
+            size: None,
+            start: None,
+            target: None,
+            layers: Vec::new(heap),
+        }
+    }
+
     // The plan, if the size, the start and the target are given.
-    fn plan(&self) -> Option<Plan>
-        ensures { result ≡ plan_of self.now }
+    fn plan(self) -> Option<Plan>
+        ensures { result ≡ plan_of self }
     {
         let size = self.size?;
         Some(Plan {
@@ -53,41 +68,57 @@ impl Heading {
                 target: self.target?,
             },
             start: self.start?,
-            fence: self.fence,
-            toll: self.toll,
+            layers: self.layers,
         })
     }
 
-    // Takes what the next line says, and answers the plan once the map begins.
-    fn take(&mut self, header: Header) -> Result<Option<Plan>, Mistake>
-        ensures { TakesHeader self.old header result self.new }
+    // Takes what the next line says, and answers whether the map begins below it.
+    fn take(&mut self, header: Header) -> Result<bool, Mistake>
+        ensures { (result ≡ Err Memory) ⊎ TakesHeader self.old header result self.new }
     {
         match header {
             Header::Blank => {}
             Header::Field(size) => keep(&mut self.size, size)?,
             Header::Start(cell) => keep(&mut self.start, cell)?,
             Header::Target(cell) => keep(&mut self.target, cell)?,
-            Header::Fence(zones) => keep(&mut self.fence, zones)?,
-            Header::Toll(charge) => keep(&mut self.toll, charge)?,
-            Header::Map => return self.plan().map(Some).ok_or(Mistake::Early),
+            Header::Fence(barred) => {
+                let layer = Layer::Fence { barred };
+                self.layers.push(layer)?
+            }
+            Header::Toll(charge) => {
+                let charged = charge.zones;
+                let layer = Layer::Toll {
+                    cost: charge.cost,
+                    charged,
+                };
+                self.layers.push(layer)?
+            }
+            Header::Map => return Ok(true),
         }
-        Ok(None)
+        Ok(false)
+    }
+
+    // Takes what the words of the next line say.
+    fn take_line(&mut self, line: &str) -> Result<bool, Mistake>
+        ensures { (result ≡ Err Memory) ⊎ TakesHeading self.old line.now result self.new }
+    {
+        self.take(line.parse()?)
     }
 }
 
-// The plan that the lines up to the map say, if there is a map.
-fn read_plan(lines: &mut NumberedLines) -> Result<Option<Plan>, Problem> {
-    let mut heading = Heading::default();
-    for (line, number) in lines {
-        let plan = line
-            .parse::<Header>()
-            .and_then(|header| heading.take(header))
-            .map_err(|mistake| mistake.at(number))?;
-        if plan.is_some() {
-            return Ok(plan);
+// The plan that the lines up to the map say.
+fn read_plan(heap: Global, lines: &mut NumberedLines) -> Result<Plan, Problem>
+    ensures { MatchResult result (λ plan. ReadsPlan no_heading lines.old.taken lines.old.lines (Ok (plan, lines.new))) (λ problem. (problem.mistake ≡ Memory) ⊎ ReadsPlan no_heading lines.old.taken lines.old.lines (Err problem)) }
+{
+    let mut heading = Heading::new(heap);
+    while let Some((number, line)) = lines.next() {
+        match heading.take_line(line) {
+            Ok(false) => {}
+            Ok(true) => return heading.plan().ok_or(Mistake::Early.at(number)),
+            Err(mistake) => return Err(mistake.at(number)),
         }
     }
-    Ok(None)
+    Err(Mistake::NoMap.at(lines.next_number()))
 }
 
 // Adds the bytes of a row to those of the rows above it.
@@ -106,24 +137,45 @@ fn add_row(map: &mut Vec<u8>, columns: u16, line: &str) -> Result<(), Mistake>
     Ok(())
 }
 
-// The drawing that a text is, or the first problem with it.
-pub fn read(heap: Global, text: &str) -> Result<Drawing, Problem> {
-    // The line that is missing where the text ends early.
-    let after_last = || text.lines().count().saturating_add(1);
-    let mut lines = text.lines().zip(1..=usize::MAX);
-    let plan = read_plan(&mut lines)?.ok_or_else(|| Mistake::NoMap.at(after_last()))?;
-    let Layout { columns, rows, .. } = plan.layout;
+// The bytes of the map's rows.
+#[tactic(auto, using(crate::proofs::ReadingLemmas::rows_done))]
+fn read_rows(heap: Global, lines: &mut NumberedLines, layout: Layout) -> Result<Vec<u8>, Problem>
+    ensures { MatchResult result (λ map. rows_read layout 0 [] lines.old.taken lines.old.lines ≡ Ok (map.items, lines.new)) (λ problem. (problem.mistake ≡ Memory) ⊎ (rows_read layout 0 [] lines.old.taken lines.old.lines ≡ Err problem)) }
+{
+    let Layout { columns, rows, .. } = layout;
     let mut map = Vec::new(heap);
     for found in 0..rows {
-        let (line, number) = lines
-            .next()
-            .ok_or_else(|| Mistake::Short { rows, found }.at(after_last()))?;
-        add_row(&mut map, columns, line).map_err(|mistake| mistake.at(number))?;
+        let Some((number, line)) = lines.next() else {
+            return Err(Mistake::Short { rows, found }.at(lines.next_number()));
+        };
+        if let Err(mistake) = add_row(&mut map, columns, line) {
+            return Err(mistake.at(number));
+        }
     }
-    for (line, number) in lines {
+    Ok(map)
+}
+
+// Nothing, if the lines below so many rows are blank.
+fn read_end(lines: NumberedLines, rows: u16) -> Result<(), Problem>
+    ensures { result ≡ end_read rows lines.entry.taken lines.entry.lines }
+{
+    for (number, line) in lines {
         if !line.trim_end().is_empty() {
             return Err(Mistake::Long { rows }.at(number));
         }
     }
+    Ok(())
+}
+
+// The drawing that a text is, or the first problem with it.
+#[tactic(auto, using(crate::proofs::OneReading::one_reading))]
+pub fn read(heap: Global, text: &str) -> Result<Drawing, Problem>
+    ensures only { HasOneReading text.now }
+    ensures reading { MatchResult result (λ drawing. Reads text.now (Ok (drawing.plan, drawing.map.items))) (λ problem. (problem.mistake ≡ Memory) ⊎ Reads text.now (Err problem)) }
+{
+    let mut lines = NumberedLines::of(text);
+    let plan = read_plan(heap, &mut lines)?;
+    let map = read_rows(heap, &mut lines, plan.layout)?;
+    read_end(lines, plan.layout.rows)?;
     Ok(Drawing { plan, map })
 }

@@ -1,24 +1,30 @@
 // The searches over a drawing, and the lines that say what they came to.
-ghost use Rattle.std.specs.Prelude.{◌≡◌, ◌<◌, false, replicate, unwrap_or, MatchOption};
+ghost use Rattle.std.specs.Prelude.{◌≡◌, ◌<◌, length};
+ghost use Rattle.map.specs.Ground.{ground, ground_guess, meant, guessed, Surveyed, SurveyCalls};
 
 use crate::canvas::{Canvas, text_of};
-use crate::drawing::{Charge, Drawing, Plan};
+use crate::drawing::Drawing;
 use field::Field;
-use graph::zones::ZONES;
-use graph::{Fault, Fence, Toll};
-use kinds::{Cell, CostKind, Millis};
-use report::{Desk, Found, Memory, Method, Route};
+use graph::{Fault, Layers};
+use kinds::{Cell, Millis};
+use planner::Planner;
+use report::{Desk, Found, Memory, Method, PricedRoute, RouteRefusal};
 use search::SeekRefusal;
 use std::fmt;
 
-// A field under a fence and a toll.
-type Pile<'a> = Toll<Fence<Field<'a>>, Millis>;
+// A field under fences and tolls.
+type Pile<'a> = Layers<'a, Field<'a>, Millis>;
 
 // A refusal of a search in words, which are those of this program: what it calls a toll another graph may not have.
 #[derive(Clone, Copy)]
 struct Reason(SeekRefusal);
 
 impl fmt::Display for Reason {
+    ghost use Rattle.std.specs.Prelude.{Some};
+    ghost use Rattle.map.specs.Reasons.{reason_of};
+
+    ghost output = { λ reason. Some (reason_of reason.0) };
+
     fn fmt<W: fmt::Write>(&self, f: &mut fmt::Formatter<W>) -> fmt::Result {
         match self.0 {
             SeekRefusal::NotHeld => f.write_str("the start is outside, solid or fenced off"),
@@ -27,7 +33,7 @@ impl fmt::Display for Reason {
                 fault: Fault { rank, depth },
             } => write!(
                 f,
-                "the toll does not fit, at the planner's row {row}, rank {rank}, depth {depth}"
+                "a toll does not fit, at the planner's row {row}, rank {rank}, depth {depth}"
             ),
             SeekRefusal::NoSum {
                 row,
@@ -47,32 +53,15 @@ impl fmt::Display for Reason {
     }
 }
 
-// The field under the fence and the toll of a plan; no zone is barred or charged where no line says so.
-fn pile<'a>(field: Field<'a>, plan: &Plan) -> Pile<'a>
-    ensures field { result.below.below ≡ field.entry }
-    ensures fence { result.below.barred ≡ unwrap_or plan.now.fence (replicate 64 false) }
-    ensures toll { MatchOption plan.now.toll (result.cost.millis ≡ 0) (λ toll. result.cost ≡ toll.cost) }
-    ensures charged { MatchOption plan.now.toll (result.charged ≡ replicate 64 false) (λ toll. result.charged ≡ toll.zones) }
-{
-    let nowhere = [false; ZONES];
-    let toll = plan.toll.unwrap_or(Charge {
-        cost: Millis::zero(),
-        zones: nowhere,
-    });
-    Toll::new(
-        Fence::new(field, plan.fence.unwrap_or(nowhere)),
-        toll.cost,
-        toll.zones,
-    )
-}
-
-// A drawing that is searched, and where the lines go that say what the searches come to.
+// A drawing that is searched, with its pile, and where the lines go that say what the searches come to.
 #[derive(Drop)]
 struct Survey<'a, R> {
     rt: &'a R,
     drawing: &'a Drawing,
     pile: Pile<'a>,
     ghost wide: { 0 < drawing.now.plan.layout.columns },
+    ghost drawn: { meant pile ≡ ground drawing.now },
+    ghost guided: { guessed pile ≡ ground_guess drawing.now },
 }
 
 impl<R: Print + AllocGlobal> Survey<'_, R> {
@@ -86,21 +75,34 @@ impl<R: Print + AllocGlobal> Survey<'_, R> {
         Ok(())
     }
 
+    // Seeks a route over the drawing, in the room for it: a cheapest one, at its cost, or none where there is none.
+    fn route<'r>(
+        &self,
+        method: Method,
+        planner: &mut Planner<Cell, Millis>,
+        room: &'r mut [Cell],
+    ) -> Result<Option<PricedRoute<'r, Cell, Millis>>, RouteRefusal>
+        ensures answers { Surveyed self.now.drawing.now result }
+        ensures calls { SurveyCalls self.now.drawing.now method (length room.old) planner.old result planner.new }
+    {
+        let plan = &self.drawing.plan;
+        method.route(planner, &self.pile, plan.start, room)
+    }
+
     // Runs one search, and prints what it came to.
     fn report(&self, method: Method, desk: &mut Desk<Cell, Millis>) -> anyhow::Result<()> {
-        let cost = match method.seek(&mut desk.planner, &self.pile, self.drawing.plan.start) {
-            Ok(Some(cost)) => cost,
-            Ok(None) => return Ok(println!(self.rt; "{method} none")?),
-            Err(refusal) => {
-                let reason = Reason(refusal);
-                return Ok(println!(self.rt; "{method} refused {}: {reason}", u8::from(refusal))?);
+        match self.route(method, &mut desk.planner, desk.out) {
+            Ok(Some(PricedRoute { cost, route })) => {
+                self.print_route(Found { method, cost }, route.nodes)
             }
-        };
-        match Route::next(&mut desk.planner, desk.out) {
-            Ok(Some(route)) => self.print_route(Found { method, cost }, route.nodes),
-            // Not after a cost was found.
-            Ok(None) => Ok(()),
-            Err(refusal) => Ok(println!(self.rt; "{method} refused {}", u8::from(refusal))?),
+            Ok(None) => Ok(println!(self.rt; "{method} none")?),
+            Err(RouteRefusal::Seek(refusal)) => {
+                let reason = Reason(refusal);
+                Ok(println!(self.rt; "{method} refused {}: {reason}", u8::from(refusal))?)
+            }
+            Err(RouteRefusal::HandOut(refusal)) => {
+                Ok(println!(self.rt; "{method} refused {}", u8::from(refusal))?)
+            }
         }
     }
 }
@@ -123,7 +125,7 @@ pub fn run<R: Print + AllocGlobal>(rt: &R, drawing: &Drawing) -> anyhow::Result<
     let survey = Survey {
         rt,
         drawing,
-        pile: pile(field, &drawing.plan),
+        pile: Layers::new(field, drawing.plan.layers.as_slice()),
     };
     for method in Method::ALL {
         survey.report(method, &mut desk)?;

@@ -1,6 +1,8 @@
 // What is wrong with a drawing, and in which line.
 use crate::mistake::{Mistake, Problem};
 use crate::reader::read;
+use graph::{Layer, only};
+use kinds::Millis;
 use std::alloc::Global;
 
 // The first problem with a text.
@@ -64,4 +66,24 @@ fn rows_of_the_map(rt: HostRuntime) {
     assert_eq!(rt; problem(heap, text), Some(long.at(8)));
     let text = "field 2 2 1\nstart 0 0\ntarget 1 1\nmap\n.. \n#7\n\n";
     assert_eq!(rt; problem(heap, text), None);
+}
+
+#[test]
+fn layers_in_the_order_of_their_lines(rt: HostRuntime) {
+    let text = "toll 5 2\nfence 7\ntoll 9 2\nfield 1 1 1\nstart 0 0\ntarget 0 0\nmap\n.\n";
+    let layers = read(rt.alloc(), text)
+        .ok()
+        .map(|drawing| drawing.plan.layers);
+    let wanted = [
+        Layer::Toll {
+            cost: Millis { millis: 5 },
+            charged: only(2),
+        },
+        Layer::Fence { barred: only(7) },
+        Layer::Toll {
+            cost: Millis { millis: 9 },
+            charged: only(2),
+        },
+    ];
+    assert!(rt; layers.is_some_and(|layers| layers.as_slice() == wanted.as_slice()));
 }

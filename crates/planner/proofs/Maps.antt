@@ -3,6 +3,7 @@ use Rattle.std.specs.Option.{option_map}
 use Rattle.std.proofs.Common.{◌≡◌, ℕ, zero, suc, ◌+◌, ◌<◌, ◌≤◌, Bool, true, false, cond, eqb, ltb-true, List, [], ◌∷◌, ◌++◌, map, length, get_or, set, Some, None, Option, sym, refl, ap, ◌∙◌, subst, arith, length-append, length-set}
 use Rattle.std.proofs.lemmas.Bool.Decides.{nat_tests}
 use Rattle.std.proofs.lemmas.List.{length-map, map-append, map-set, get_or-map}
+use Rattle.std.proofs.lemmas.List.Elements.{All-from_recursion}
 use Rattle.store.specs.Rows.{number_of}
 use Rattle.store.specs.declared.slots.Waiting.{Waiting}
 use Rattle.store.specs.Queue.{without as without₀, first_out as first_out₀}
@@ -27,6 +28,14 @@ module _ {N C : Type 0} (key : N → ℕ) (weight : C → ℕ) where
   row_is l j n v h en ev =
       let d = some_of l j h in
       let a = en d in
+      let b = ev d in
+      let e = get_or-map (row_of key weight) l j d no_row h in
+      grind arith
+
+  -- the cost and the parent of the row whose value was read
+  pub reached_is : (l : List (N × Reached C)) (j : ℕ) (v : Reached C) → j < length l → ((d : N × Reached C) → v ≡ (get_or l j d).1) → (weight v.cost ≡ (get_or (rows_of key weight l) j no_row).cost) × (v.parent ≡ (get_or (rows_of key weight l) j no_row).parent)
+  reached_is l j v h ev =
+      let d = some_of l j h in
       let b = ev d in
       let e = get_or-map (row_of key weight) l j d no_row h in
       grind arith
@@ -80,10 +89,8 @@ module _ {N C : Type 0} where
   parents_set n (y ∷ l) zero x b h = (h, b.1)
   parents_set n (y ∷ l) (suc j) x b h = (b.0, parents_set n l j x b.1 h)
 
-  pub parents_at : (n : ℕ) (l : List (N × Reached C)) (k : ℕ) (d : N × Reached C) → k < length l → Parents n l → (get_or l k d).1.parent < n
-  parents_at n [] k d h b = absurd (omega arith)
-  parents_at n (x ∷ l) zero d h b = b.0
-  parents_at n (x ∷ l) (suc k) d h b = parents_at n l k d (omega arith) b.1
+  pub parents_at : (n : ℕ) (l : List (N × Reached C)) (k : ℕ) (v : Reached C) → k < length l → ((d : N × Reached C) → v ≡ (get_or l k d).1) → Parents n l → v.parent < n
+  parents_at n l k v h e b = let d = some_of l k h in rw (e d) (All-from_recursion (λ x. x.1.parent < n) l b k d h)
 
 -- what the steps of a search need of the lists
 pub ruleset lists = (find_rows, number_below, number_key, without_entries, first_entries, below_first, below_more, below_without, below_push, parents_more, parents_push, parents_set, map-append, map-set, length-map, length-append, length-set, ltb-true)

@@ -16,8 +16,8 @@ held_of f sink links =
     record { capacity = record { rows = f.capacity; links = links }; pending = routes_to f.state.rows sink }
 
 -- the sink is a row in use
-abbrev pub Sunk : Standing → Option ℕ → Type 0
-Sunk f sink = (j : ℕ) → sink ≡ Some j → j < length f.state.rows
+abbrev pub SinkInUse : Standing → Option ℕ → Type 0
+SinkInUse f sink = (j : ℕ) → sink ≡ Some j → j < length f.state.rows
 
 -- what a seek answered
 abbrev pub answer_of : {C : Type 0} → (C → ℕ) → Result (Option C) SeekRefusal → Answer

@@ -9,7 +9,8 @@ use kinds::{CostKind, NodeKind};
 use search::SeekRefusal;
 
 impl<'a, N: NodeKind, C: CostKind> Planner<'a, N, C> {
-    // Seeks a route from the start by the graph's guess: its cost, or no route. Where the guess is true, the route is a lightest one.
+    // Seeks a route from the start by the graph's guess: its cost, or no route.
+    // Where the guess is true, the route is a lightest one.
     pub fn astar<G: Graph<Node = N, Cost = C>>(
         &mut self,
         graph: &G,

@@ -15,11 +15,11 @@ pub struct Planner<'a, N: NodeKind, C: CostKind> {
 
 impl<'a, N: NodeKind, C: CostKind> Model for Planner<'a, N, C> {
     ghost use Rattle.search.specs.Calls.{Held};
-    ghost use Rattle.planner.specs.Pending.{held_of, Sunk};
+    ghost use Rattle.planner.specs.Pending.{held_of, SinkInUse};
 
     ghost Value = { Held };
 
     ghost view = { λ p. held_of p.frontier p.sink p.links };
 
-    ghost invariant = { λ p. Sunk p.frontier p.sink };
+    ghost invariant = { λ p. SinkInUse p.frontier p.sink };
 }

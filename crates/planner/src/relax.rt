@@ -1,5 +1,5 @@
-// One road of a row that was taken out. Each step says `After`, which is about two moments, and asks that the row is in use, which is
-// about an argument and a frontier: so they can stand in no type.
+// One road of a row that was taken out. Each step says `After`, which is about two moments, and asks that the row is in use, which
+// is about an argument and a frontier: so they can stand in no type.
 ghost use Rattle.std.specs.Prelude.{◌≡◌, ◌+◌, ◌<◌, true, length, if◌then◌else◌, Some, None, nat_lt};
 ghost use Rattle.kinds.specs.Kind.{sum_of};
 ghost use Rattle.search.specs.Rows.{find};
@@ -140,7 +140,8 @@ impl<'a, N: NodeKind, C: CostKind> Frontier<'a, N, C> {
         }
     }
 
-    // The road of a rank of a row that was taken out. It refuses the sum of costs to the road's end, and `enter` that with the guess.
+    // The road of a rank of a row that was taken out. It refuses the sum of costs to the road's end, and
+    // `enter` that with the guess.
     #[tactic(auto, unfolding(search::specs::Machine::relax, search::specs::Machine::summed))]
     pub(crate) fn relax<G: Graph<Node = N, Cost = C>>(
         &mut self,

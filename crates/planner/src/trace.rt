@@ -6,15 +6,15 @@ use crate::frontier::Frontier;
 use kinds::{CostKind, NodeKind};
 
 impl<'a, N: NodeKind, C: CostKind> Frontier<'a, N, C> {
-    // How many rows it has.
+    // How many rows the way back from a row has.
     pub(crate) fn depth(&self, row: u16) -> usize
         requires { row < length self.now.state.rows }
         ensures { result ≡ length (walk (length self.now.state.rows) self.now.state.rows row []) }
     {
         let all = self.register.len();
         let mut at = row;
-        // The walk itself has no range: its steps are at most the rows, which shows that it ends, and a closure over `successors` could not
-        // know that the row it looks at is in use.
+        // The walk itself has no range: its steps are at most the rows, which shows that it ends, and a closure over `successors`
+        // could not know that the row it looks at is in use.
         for depth in 1..all {
             if at == 0 {
                 return depth;
@@ -24,7 +24,7 @@ impl<'a, N: NodeKind, C: CostKind> Frontier<'a, N, C> {
         all
     }
 
-    // Writes its nodes, row 0 first.
+    // Writes the nodes of the way back, that of row 0 first.
     pub(crate) fn write_back(&self, row: u16, out: &mut [N])
         requires inside { row < length self.now.state.rows }
         requires long { length out.old ≡ length (walk (length self.now.state.rows) self.now.state.rows row []) }

@@ -1,4 +1,4 @@
-// The turns of a search, up to its end. Each says `After`, and asks that a row is in use, as the steps of `relax` do.
+// The turns of a search, up to its end. Each says `After`, as the steps of `relax` do; `expand` asks too that the row is in use.
 ghost use Rattle.std.specs.Prelude.{◌≡◌, ◌<◌, length};
 ghost use Rattle.search.specs.Queue.{first_out};
 ghost use Rattle.search.specs.Machine.{along, turn as turns, Ends};
@@ -39,8 +39,8 @@ impl<'a, N: NodeKind, C: CostKind> Frontier<'a, N, C> {
         Ok(())
     }
 
-    // One turn of the search, as its definition has it. Takes the first out: a goal ends the search, and the roads of another row are followed. The search ends too where
-    // none waits.
+    // One turn of the search, as its definition has it. Takes the first out: a goal ends the search, and the roads of another row
+    // are followed. The search ends too where none waits.
     #[tactic(auto, using(crate::proofs::Maps::lists), unfolding(search::specs::Machine::turn, search::specs::Machine::taken))]
     fn turn<G: Graph<Node = N, Cost = C>>(
         &mut self,

@@ -1,3 +1,4 @@
 pub mod Names
 pub mod Stock
 pub mod Routes
+pub mod Priced

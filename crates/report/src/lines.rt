@@ -1,5 +1,8 @@
 // The lines that a chart's searches come to. What is refused is printed by its number where it is met, since each line has words of
 // its own.
+ghost use Rattle.std.specs.Prelude.{◌≡◌};
+ghost use Rattle.report.specs.Names.{is_wanted};
+
 use crate::memory::{Desk, Memory};
 use crate::method::Method;
 use crate::route::Route;
@@ -7,7 +10,7 @@ use chart::Chart;
 use kinds::{Station, Trims};
 use std::{fmt, io};
 
-// The rows and the links of a planner that serves charts of the shops.
+// The rows and the links of the planner of the program `route` (docs/ROUTE.md).
 pub const ROWS: usize = 512;
 
 pub const LINKS: usize = 2000;
@@ -64,16 +67,18 @@ fn report(
     }
 }
 
-// Whether a search is asked for: named, or none is named. A caller may name none that there is, so what it gives are names.
-fn wanted(names: &[String], method: Method) -> bool {
-    names.is_empty() || names.iter().any(|name| name.parse() == Ok(method))
+// Whether a search is asked for: it is one of these, or there are none.
+fn wanted(methods: &[Method], method: Method) -> bool
+    ensures { result ≡ is_wanted methods.now method }
+{
+    methods.is_empty() || methods.contains(&method)
 }
 
-// Runs the searches that are named, or all, over a chart from station 0, with a planner of so many rows and links, counts that a caller
-// chooses; and prints what each came to, or that the chart is refused.
+// Runs these searches, or all where there are none, over a chart from station 0, with a planner of so many rows and links, counts
+// that a caller chooses; and prints what each came to, or that the chart is refused.
 pub fn run(
     rt: &HostRuntime,
-    names: &[String],
+    methods: &[Method],
     bytes: &[u8],
     rows: usize,
     links: usize,
@@ -88,7 +93,7 @@ pub fn run(
         Err(refusal) => return Ok(println!(rt; "planner refused {}", u8::from(refusal))?),
     };
     for method in Method::ALL {
-        if wanted(names, method) {
+        if wanted(methods, method) {
             report(rt, method, &mut desk, &chart)?;
         }
     }

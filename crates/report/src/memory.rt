@@ -16,10 +16,10 @@ use store::slots::Slot;
 // What a planner is lent, and room for the nodes of a route. Contracts see it as how much it is.
 #[derive(Drop)]
 pub struct Memory<N, C> {
-    pub rows: Vec<Row<N, Reached<C>>>,
-    pub slots: Vec<Slot<C>>,
-    pub links: Vec<Link>,
-    pub nodes: Vec<N>,
+    pub(crate) rows: Vec<Row<N, Reached<C>>>,
+    pub(crate) slots: Vec<Slot<C>>,
+    pub(crate) links: Vec<Link>,
+    pub(crate) nodes: Vec<N>,
 }
 
 impl<N, C> Model for Memory<N, C> {

@@ -2,7 +2,7 @@
 use crate::memory::{Desk, Memory};
 use crate::route::Route;
 use kinds::{Station, Trims};
-use planner::MakeRefusal;
+use std::alloc::{AllocError, Global};
 use std::test::Fail;
 
 #[test]
@@ -27,10 +27,24 @@ fn memory_with_room(rt: HostRuntime) -> Result<(), Fail> {
     Ok(())
 }
 
-#[test]
-fn memory_of_no_row(rt: HostRuntime) -> Result<(), Fail> {
+// The number of the refusal to make a planner over so many rows and links.
+fn refused(heap: Global, rows: usize, links: usize) -> Result<Option<u8>, AllocError> {
     let node = Station { id: 0 };
-    let mut memory = Memory::<Station, Trims>::new(rt.alloc(), node, 0, 0)?;
-    assert_eq!(rt; memory.desk().err(), Some(MakeRefusal::Counts));
+    let mut memory = Memory::<Station, Trims>::with_room(heap, node, rows, links, 0)?;
+    Ok(memory.desk().err().map(u8::from))
+}
+
+#[test]
+fn counts(rt: HostRuntime) -> Result<(), Fail> {
+    for (rows, links, answer) in [
+        (0, 0, Some(1)),
+        (1, 65535, None),
+        (1, 65536, Some(1)),
+        (32768, 0, None),
+        (32769, 0, Some(1)),
+    ] {
+        let found = refused(rt.alloc(), rows, links)?;
+        assert_eq!(rt; found, answer, "{rows} rows, {links} links");
+    }
     Ok(())
 }

@@ -9,16 +9,16 @@ use std::env;
 use std::io::Read;
 
 fn main(rt: HostRuntime) -> anyhow::Result<()> {
-    let mut names = Vec::new(rt.alloc());
+    let mut methods = Vec::new(rt.alloc());
     for name in env::args(&rt)?.skip(1) {
-        if name.as_str().parse::<Method>().is_err() {
+        let Ok(method) = name.as_str().parse::<Method>() else {
             let [first, last] = Method::ALL;
             eprintln!(rt; "route: no search is called {name}: there are {first} and {last}")?;
             bail!("an argument names no search");
-        }
-        names.push(name)?;
+        };
+        methods.push(method)?;
     }
     let mut bytes = Vec::new(rt.alloc());
     rt.stdin().read_to_end(&mut bytes)?;
-    report::run(&rt, names.as_slice(), bytes.as_slice(), ROWS, LINKS)
+    report::run(&rt, methods.as_slice(), bytes.as_slice(), ROWS, LINKS)
 }

@@ -1,9 +1,9 @@
 -- The search ends: each turn uses up a potential.
-use Rattle.std.proofs.Common.{◌≡◌, ℕ, zero, suc, ◌+◌, ◌-◌, ◌*◌, ◌<◌, ◌≤◌, true, List, [], ◌∷◌, length, Some, suc-mul, arith}
+use Rattle.std.proofs.Common.{◌≡◌, ℕ, zero, suc, ◌+◌, ◌-◌, ◌*◌, ◌<◌, ◌≤◌, List, [], ◌∷◌, length, Some, suc-mul, arith}
 use Rattle.std.specs.List.{sum_by}
 use Rattle.std.proofs.lemmas.Grind.{common_steps}
 use Rattle.std.proofs.lemmas.List.Sums.{sum_by-set}
-use Rattle.kinds.specs.Kind.{Kind}
+use Rattle.kinds.specs.Kind.{Kind, Bounded}
 use Rattle.graph.specs.Meaning.{Meaning, Road}
 use Rattle.search.specs.Rows.{Row}
 use Rattle.search.specs.Queue.{Entry, first_out, without}
@@ -35,7 +35,7 @@ module _ (K : Kind) (cap : ℕ) where
   room : (n : ℕ) → n < cap → (cap - n) * share ≡ (cap - suc n) * share + share
   room n l = let e : cap - n ≡ suc (cap - suc n) = omega arith in rw (e, suc-mul)
 
-module _ (K : Kind) (M : Meaning) (guess : ℕ → ℕ) (cap : ℕ) (bound : (a b : ℕ) → K.fits a b ≡ true → a + b ≤ K.greatest) where
+module _ (K : Kind) (M : Meaning) (guess : ℕ → ℕ) (cap : ℕ) (bound : Bounded K) where
   -- a state that it comes to has no greater potential
   Under : State → Result → Type 0
   Under s (fine t) = potential K cap t ≤ potential K cap s

@@ -1,6 +1,6 @@
 -- A search comes to one outcome, and to no other.
-use Rattle.std.proofs.Common.{◌≡◌, ℕ, zero, suc, ◌+◌, ◌<◌, ◌≤◌, true, sym, refl, arith}
-use Rattle.kinds.specs.Kind.{Kind}
+use Rattle.std.proofs.Common.{◌≡◌, ℕ, zero, suc, ◌<◌, sym, refl, arith}
+use Rattle.kinds.specs.Kind.{Kind, Bounded}
 use Rattle.graph.specs.Meaning.{Meaning}
 use Rattle.search.specs.Outcome.{Outcome}
 use Rattle.search.specs.Queue.{first_out}
@@ -24,7 +24,7 @@ module _ (K : Kind) (M : Meaning) (guess : ℕ → ℕ) (cap : ℕ) where
   through P Q step p (last {s = s} e) = rw e at (step s p)
   through P Q step p (next {s = s} e h) = through P Q step (rw e at (step s p)) h
 
-  module _ (bound : (a b : ℕ) → K.fits a b ≡ true → a + b ≤ K.greatest) where
+  module _ (bound : Bounded K) where
     comes_by : (n : ℕ) (s : State) → potential K cap s < n → (o : Outcome) × Ends K M guess cap s o
     comes_by zero s l = absurd (omega arith)
     comes_by (suc n) s l = elim (turn K M guess cap (first_out s.heap) s) as (λ x. turn K M guess cap (first_out s.heap) s ≡ x → (o : Outcome) × Ends K M guess cap s o) [

@@ -1,6 +1,6 @@
 -- The laws of the searches, method by method.
 use Rattle.std.proofs.Common.{◌≡◌, ℕ, Bool, true, false, List, length, refl, arith}
-use Rattle.kinds.specs.Kind.{Kind}
+use Rattle.kinds.specs.Kind.{Kind, Bounded}
 use Rattle.graph.specs.Meaning.{Meaning, Lawful}
 use Rattle.graph.specs.Routes.{True}
 use Rattle.graph.specs.Unguided.{unguided_lawful}
@@ -9,7 +9,7 @@ use Rattle.search.specs.Outcome.{Outcome, stopped, none, found}
 use Rattle.graph.proofs.Kept.{piles_keep_truth}
 use Rattle.search.specs.Machine.{begin, from, Search}
 use Rattle.search.specs.Answers.{Method, dijkstra, astar, guess_of, Capacity, Answers}
-use Rattle.search.specs.Laws.{Guided, Lists, Right, SearchesRight, Bounded, SearchesEnd}
+use Rattle.search.specs.Laws.{Guided, Lists, Right, SearchesRight, SearchesEnd}
 use Rattle.search.proofs.Once.{once, comes}
 use Rattle.search.proofs.Shown.{Shows}
 use Rattle.search.proofs.Turns.{search_shows}

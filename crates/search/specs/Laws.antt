@@ -1,7 +1,8 @@
--- What holds of every search, in the words of routes: for every method, every cost kind, every lawful graph, any rows and any start.
-use Rattle.std.specs.Prelude.{◌≡◌, ℕ, ◌+◌, ◌<◌, ◌≤◌, true, List, length}
+-- What holds of every search, in the words of routes: for every method, every cost kind, every lawful graph,
+-- any rows and any start.
+use Rattle.std.specs.Prelude.{◌≡◌, ℕ, ◌<◌, ◌≤◌, List, length}
 use Rattle.std.specs.List.{AllByRecursion}
-use Rattle.kinds.specs.Kind.{Kind}
+use Rattle.kinds.specs.Kind.{Kind, Bounded}
 use Rattle.graph.specs.Meaning.{Meaning, Lawful}
 use Rattle.graph.specs.Routes.{Weighs, Route, True}
 use Rattle.graph.specs.Pile.{Pile}
@@ -56,10 +57,6 @@ pub record Right (m : Method) (K : Kind) (M : Meaning) (guess : ℕ → ℕ) (ca
 
 abbrev pub SearchesRight : Type 0
 SearchesRight = (m : Method) (K : Kind) (M : Meaning) (guess : ℕ → ℕ) (cap : Capacity) (start : ℕ) → Lawful M guess → Right m K M guess cap start
-
--- no sum that fits outweighs the greatest cost
-abbrev pub Bounded : Kind → Type 0
-Bounded K = (a b : ℕ) → K.fits a b ≡ true → a + b ≤ K.greatest
 
 -- every search ends, and answers once: there is an outcome, and no other
 abbrev pub SearchesEnd : Type 0

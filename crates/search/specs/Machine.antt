@@ -1,5 +1,5 @@
 -- The search that takes out the least estimate first, step by step.
-use Rattle.std.specs.Prelude.{◌≡◌, ℕ, zero, suc, ◌+◌, Bool, true, false, List, [], ◌∷◌, ◌++◌, length, get_or, Some, None, Option, nat_lt, slice_index_or, slice_set}
+use Rattle.std.specs.Prelude.{◌≡◌, ℕ, zero, suc, ◌+◌, Bool, true, false, List, [], ◌∷◌, ◌++◌, length, Some, None, Option, nat_lt, slice_index_or, slice_set}
 use Rattle.kinds.specs.Kind.{Kind}
 use Rattle.graph.specs.Meaning.{Meaning, Road, opened, closed, faulty}
 use Rattle.search.specs.declared.refusal.SeekRefusal.{SeekRefusal}
@@ -58,7 +58,7 @@ module _ (K : Kind) (M : Meaning) (guess : ℕ → ℕ) (cap : ℕ) where
 
   unfoldable pub arrive : (row : Option ℕ) (i rank k sum : ℕ) → State → Result
   arrive None i rank k sum s = fresh (nat_lt (length s.rows) cap) i rank k sum s
-  arrive (Some j) i rank k sum s = known (nat_lt sum (get_or s.rows j no_row).cost) i rank k sum j s
+  arrive (Some j) i rank k sum s = known (nat_lt sum (slice_index_or s.rows j no_row).cost) i rank k sum j s
 
   unfoldable pub summed : (fits : Bool) (i rank k sum : ℕ) → State → Result
   summed true i rank k sum s = arrive (find k s.rows) i rank k sum s
@@ -82,7 +82,7 @@ module _ (K : Kind) (M : Meaning) (guess : ℕ → ℕ) (cap : ℕ) where
 
   unfoldable pub turn : Option Entry → State → Turned
   turn None s = done none
-  turn (Some e) s = taken (M.goal (get_or s.rows e.row no_row).key) e.row (slice_index_or s.rows e.row no_row) s
+  turn (Some e) s = taken (M.goal (slice_index_or s.rows e.row no_row).key) e.row (slice_index_or s.rows e.row no_row) s
 
   -- what the search comes to from a state on: the turns go on until one is the last
   pub data Ends : State → Outcome → Type 0 where

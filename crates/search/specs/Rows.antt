@@ -1,5 +1,5 @@
 -- The rows of a search: the keys that it has found, numbered from 0 in the order of finding.
-use Rattle.std.specs.Prelude.{ℕ, zero, suc, ◌+◌, cond, List, [], ◌∷◌, Some, None, Option, ◌==◌, slice_index_or}
+use Rattle.std.specs.Prelude.{ℕ, zero, suc, List, ◌∷◌, Option, ◌==◌, slice_index_or, position}
 
 -- a key, the least cost that it was reached at, and the row that it was then reached from
 pub record Row : Type 0 where
@@ -11,13 +11,8 @@ abbrev pub no_row : Row
 no_row = record { key = 0; cost = 0; parent = 0 }
 
 -- the number of the row that has a key
-abbrev pub later : Option ℕ → Option ℕ
-later None = None
-later (Some n) = Some (n + 1)
-
 abbrev pub find : ℕ → List Row → Option ℕ
-find k [] = None
-find k (r ∷ rs) = cond (r.key == k) (Some 0) (later (find k rs))
+find k rows = position (λ r. r.key == k) rows
 
 -- the keys from row 0, the start, to row i, read off the parents in at most n steps, before those of acc
 unfoldable pub walk : (n : ℕ) → List Row → (i : ℕ) → List ℕ → List ℕ

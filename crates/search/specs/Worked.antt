@@ -1,6 +1,6 @@
 -- Worked examples of the searches, and of a history.
-use Rattle.std.specs.Prelude.{ℕ, ◌+◌, cond, List, [], ◌∷◌, length, ◌==◌, nat_le, nat_lt, slice_index_or}
-use Rattle.kinds.specs.Kind.{Kind}
+use Rattle.std.specs.Prelude.{ℕ, ◌+◌, cond, List, [], ◌∷◌, length, ◌==◌, nat_lt, slice_index_or}
+use Rattle.kinds.specs.Millis.{millis_kind}
 use Rattle.graph.specs.Meaning.{Meaning, Road, opened, closed, Lawful}
 use Rattle.search.specs.declared.refusal.SeekRefusal.TheVariants.{NoRow}
 use Rattle.search.specs.declared.refusal.HandOutRefusal.TheVariants.{Short}
@@ -8,10 +8,6 @@ use Rattle.search.specs.Outcome.{stopped, found}
 use Rattle.search.specs.Answers.{dijkstra, astar, Capacity, Answers}
 use Rattle.search.specs.Calls.{sought, handed_out, costs, gave, finished, denied}
 use Rattle.search.specs.History.{Whole}
-
--- costs whose sums fit up to the greatest number of 32 bits
-abbrev pub counted : Kind
-counted = record { fits = λ a b. nat_le (a + b) 4294967295; greatest = 4294967295 }
 
 abbrev pub rows : ℕ → Capacity
 rows n = record { rows = n; links = 0 }
@@ -51,7 +47,7 @@ detour_guess k = cond (k == 2) 5 0
 -- two seeks over two graphs on one planner, with hand-outs: a history, with what the law says of it
 abbrev pub TwoSeeks : Type 0
 TwoSeeks =
-    Whole counted
+    Whole millis_kind
     (handed_out 9 finished
     ∷ sought dijkstra diamond no_guess 0 (costs 2)
     ∷ handed_out 2 (denied (Short 3))
@@ -63,12 +59,12 @@ TwoSeeks =
 
 pub record Worked : Type 0 where
   -- of the two routes over the diamond, the one found first
-  pub diamond_dijkstra : Answers dijkstra counted diamond no_guess (rows 512) 0 (found 2 ((0 ∷ 1 ∷ 3 ∷ []) ∷ []))
-  pub diamond_astar : Answers astar counted diamond no_guess (rows 512) 0 (found 2 ((0 ∷ 1 ∷ 3 ∷ []) ∷ []))
+  pub diamond_dijkstra : Answers dijkstra millis_kind diamond no_guess (rows 512) 0 (found 2 ((0 ∷ 1 ∷ 3 ∷ []) ∷ []))
+  pub diamond_astar : Answers astar millis_kind diamond no_guess (rows 512) 0 (found 2 ((0 ∷ 1 ∷ 3 ∷ []) ∷ []))
   -- of three rows none is left for the goal
-  pub diamond_full : Answers astar counted diamond no_guess (rows 3) 0 (stopped (NoRow 1 0))
+  pub diamond_full : Answers astar millis_kind diamond no_guess (rows 3) 0 (stopped (NoRow 1 0))
   -- a row whose roads were followed is taken up again when it is reached at less
-  pub detour_astar : Answers astar counted detour detour_guess (rows 512) 0 (found 6 ((0 ∷ 2 ∷ 1 ∷ 3 ∷ []) ∷ []))
+  pub detour_astar : Answers astar millis_kind detour detour_guess (rows 512) 0 (found 6 ((0 ∷ 2 ∷ 1 ∷ 3 ∷ []) ∷ []))
   -- both graphs are lawful
   pub diamond_lawful : Lawful diamond no_guess
   pub detour_lawful : Lawful detour detour_guess

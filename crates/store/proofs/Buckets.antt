@@ -1,20 +1,21 @@
 -- The hash chains of a register: a look-up meets every row of its bucket, and a new row or value keeps them.
 use Rattle.std.proofs.Common.{◌≡◌, ℕ, zero, suc, ◌+◌, ◌%◌, ◌<◌, ◌≤◌, false, eqb, List, [], ◌∷◌, ◌++◌, map, length, get_or, take, set, Some, None, sym, refl, ◌∙◌, ⊎_elim, arith}
-use Rattle.std.proofs.lemmas.List.{get_or_default, length-set, take_more, map-append, length-map, length-take-le, map-set, same_lists}
+use Rattle.std.proofs.lemmas.List.{get_or_default, length-set, take_more, map-append, map-set, same_lists}
 use Rattle.std.proofs.Math.Seq.{take-set-lt}
 use Rattle.std.proofs.lemmas.Bool.{cases_eq, eqb-false}
 use Rattle.std.proofs.lemmas.Grind.{common_steps}
 use Rattle.store.specs.declared.rows.Row.{Row}
 use Rattle.store.specs.Rows.{bucket, Linked, Single, known, valued, found, number_of}
 use Rattle.store.specs.Registers.{Kept}
+use Rattle.store.proofs.Fronts.{length_front, read_front}
 
 pub length_found : {N V : Type 0} (xs : List (Row N V)) (n : ℕ) → n ≤ length xs → length (found xs n) ≡ n
 unfolding found
-length_found xs n ln = length-map (take n xs) known ∙ length-take-le n xs ln
+length_found = length_front known
 
 pub found_at : {N V : Type 0} (xs : List (Row N V)) (n k : ℕ) (d : Row N V) (e : N × V) → n ≤ length xs → k < n → get_or (found xs n) k e ≡ known (get_or xs k d)
 unfolding found
-found_at xs n k d e ln lk = grind (arith, common_steps)
+found_at = read_front known
 
 -- a row with another latest row of its bucket
 abbrev pub headed : {N V : Type 0} → Row N V → ℕ → Row N V

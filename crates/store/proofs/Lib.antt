@@ -1,3 +1,4 @@
+pub mod Fronts
 pub mod Seats
 pub mod Sifts
 pub mod Queues

@@ -1,20 +1,21 @@
 -- What a write of an entry at a place keeps, and what it makes of the entries.
 use Rattle.std.proofs.Common.{◌≡◌, ℕ, ◌+◌, ◌<◌, ◌≤◌, eqb, List, [], ◌∷◌, ◌++◌, map, length, get_or, take, set, sym, ap, ◌∙◌, ⊎_elim, arith}
 use Rattle.std.specs.List.{swap, IsDistinct}
-use Rattle.std.proofs.lemmas.List.{get_or_default, length-map, length-take-le, take-map, take-take, same_lists}
+use Rattle.std.proofs.lemmas.List.{get_or_default, take-map, take-take, same_lists}
 use Rattle.std.proofs.lemmas.Bool.{cases_eq}
 use Rattle.std.proofs.lemmas.List.Edits.{swap_is}
 use Rattle.std.proofs.lemmas.Map.Keys.{IsDistinct-from_apart}
 use Rattle.std.proofs.lemmas.Grind.{common_steps}
 use Rattle.store.specs.declared.slots.Entry.{Entry}
 use Rattle.store.specs.declared.slots.Slot.{Slot}
-use Rattle.store.specs.Slots.{at, entry_of, entries, Placed, Seated}
+use Rattle.store.specs.Slots.{entry_at, entry_of, entries, Placed, Seated}
+use Rattle.store.proofs.Fronts.{length_front, read_front}
 
 pub length_entries : {C : Type 0} (xs : List (Slot C)) (n : ℕ) → n ≤ length xs → length (entries xs n) ≡ n
-length_entries xs n ln = length-map (take n xs) entry_of ∙ length-take-le n xs ln
+length_entries = length_front entry_of
 
-pub entries_at : {C : Type 0} (xs : List (Slot C)) (n k : ℕ) (d : Slot C) (e : Entry C) → n ≤ length xs → k < n → get_or (entries xs n) k e ≡ at xs d k
-entries_at xs n k d e ln lk = grind (arith, common_steps)
+pub entries_at : {C : Type 0} (xs : List (Slot C)) (n k : ℕ) (d : Slot C) (e : Entry C) → n ≤ length xs → k < n → get_or (entries xs n) k e ≡ entry_at xs d k
+entries_at = read_front entry_of
 
 pub entries_less : {C : Type 0} (xs : List (Slot C)) (m n : ℕ) → m ≤ n → entries xs m ≡ take m (entries xs n)
 entries_less xs m n l = ap (map entry_of) (sym (take-take m n xs l)) ∙ sym (take-map entry_of m (take n xs))
@@ -31,13 +32,13 @@ abbrev pub placed : {C : Type 0} → Slot C → ℕ → Slot C
 placed s i = record { entry = s.entry; place = i; order = s.order }
 
 -- the entry at a place in use, whatever stands for one past the end
-pub at_any : {C : Type 0} (xs : List (Slot C)) (i : ℕ) (d₁ : Slot C) → i < length xs → (d : Slot C) → at xs d₁ i ≡ at xs d i
+pub at_any : {C : Type 0} (xs : List (Slot C)) (i : ℕ) (d₁ : Slot C) → i < length xs → (d : Slot C) → entry_at xs d₁ i ≡ entry_at xs d i
 at_any xs i d₁ l d = grind (arith, get_or_default)
 
 pub seated : {C : Type 0} (xs : List (Slot C)) (i : ℕ) (e : Entry C) (d₁ d₂ : Slot C) → i < length xs → e.row < length xs → Seated xs (set (set xs i (holding (get_or xs i d₁) e)) e.row (placed (get_or (set xs i (holding (get_or xs i d₁) e)) e.row d₂) i)) i e
 seated xs i e d₁ d₂ lt ltr = grind (arith, common_steps)
 
-pub exchanged_placed : {C : Type 0} (xs ys zs : List (Slot C)) (i j : ℕ) (a b : Entry C) → (i ≡ j → ⊥) → ((d : Slot C) → a ≡ at xs d i) → ((d : Slot C) → b ≡ at xs d j) → Seated xs ys i b → Seated ys zs j a → (n : ℕ) → i < n → j < n → Placed xs n → Placed zs n
+pub exchanged_placed : {C : Type 0} (xs ys zs : List (Slot C)) (i j : ℕ) (a b : Entry C) → (i ≡ j → ⊥) → ((d : Slot C) → a ≡ entry_at xs d i) → ((d : Slot C) → b ≡ entry_at xs d j) → Seated xs ys i b → Seated ys zs j a → (n : ℕ) → i < n → j < n → Placed xs n → Placed zs n
 exchanged_placed xs ys zs i j a b ne ha hb s t n li lj p k d lk =
     let pi = p i d li in
     let pj = p j d lj in
@@ -70,13 +71,13 @@ module _ {C : Type 0} (xs ys : List (Slot C)) (e : Entry C) where
       grind (arith, common_steps))
 
 -- the entries at i and j change places
-pub entries_swapped : {C : Type 0} (xs ys zs : List (Slot C)) (n i j : ℕ) (d₁ d₂ : Slot C) → n ≤ length xs → i < n → j < n → Seated xs ys i (at xs d₂ j) → Seated ys zs j (at xs d₁ i) → entries zs n ≡ swap (entries xs n) i j
+pub entries_swapped : {C : Type 0} (xs ys zs : List (Slot C)) (n i j : ℕ) (d₁ d₂ : Slot C) → n ≤ length xs → i < n → j < n → Seated xs ys i (entry_at xs d₂ j) → Seated ys zs j (entry_at xs d₁ i) → entries zs n ≡ swap (entries xs n) i j
 entries_swapped xs ys zs n i j d₁ d₂ ln li lj s t =
     let l = length_entries xs n ln in
-    let a = entries_over xs ys (at xs d₂ j) n i ln li s in
-    let b = entries_over ys zs (at xs d₁ i) n j (omega (arith, s.long)) lj t in
-    let w = swap_is (entries xs n) i j (at xs d₁ i) (omega arith) (omega arith) in
-    cc (entries_at xs n j d₂ (at xs d₁ i) ln lj, entries_at xs n i d₁ (at xs d₁ i) ln li)
+    let a = entries_over xs ys (entry_at xs d₂ j) n i ln li s in
+    let b = entries_over ys zs (entry_at xs d₁ i) n j (omega (arith, s.long)) lj t in
+    let w = swap_is (entries xs n) i j (entry_at xs d₁ i) (omega arith) (omega arith) in
+    cc (entries_at xs n j d₂ (entry_at xs d₁ i) ln lj, entries_at xs n i d₁ (entry_at xs d₁ i) ln li)
 
 -- no two entries are of one row
 pub rows_differ : {C : Type 0} (xs : List (Slot C)) (n : ℕ) → n ≤ length xs → Placed xs n → IsDistinct (λ a b. eqb a.row b.row) (entries xs n)
@@ -90,13 +91,13 @@ rows_differ {C} xs n ln p =
     grind (arith, common_steps))
 
 -- a write over the entry of its own row
-pub over_placed : {C : Type 0} (xs ys : List (Slot C)) (n i : ℕ) (e : Entry C) → i < n → e.row < length xs → Placed xs n → ((d : Slot C) → (at xs d i).row ≡ e.row) → Seated xs ys i e → Placed ys n
+pub over_placed : {C : Type 0} (xs ys : List (Slot C)) (n i : ℕ) (e : Entry C) → i < n → e.row < length xs → Placed xs n → ((d : Slot C) → (entry_at xs d i).row ≡ e.row) → Seated xs ys i e → Placed ys n
 over_placed xs ys n i e li lr p own s k d lk = grind (arith, p i d, p k d, own d)
 
 -- after the last, of a row that has no entry
-pub next_placed : {C : Type 0} (xs ys : List (Slot C)) (n : ℕ) (e : Entry C) → e.row < length xs → Placed xs n → ((k : ℕ) (d : Slot C) → k < n → (at xs d k).row ≡ e.row → ⊥) → Seated xs ys n e → Placed ys (n + 1)
+pub next_placed : {C : Type 0} (xs ys : List (Slot C)) (n : ℕ) (e : Entry C) → e.row < length xs → Placed xs n → ((k : ℕ) (d : Slot C) → k < n → (entry_at xs d k).row ≡ e.row → ⊥) → Seated xs ys n e → Placed ys (n + 1)
 next_placed xs ys n e lr p fresh s k d lk = grind (arith, p k d, fresh k d)
 
 -- the last entry over the first
-pub top_placed : {C : Type 0} (xs ys : List (Slot C)) (m : ℕ) (d₁ : Slot C) → Placed xs (m + 1) → m < length xs → Seated xs ys 0 (at xs d₁ m) → Placed ys m
+pub top_placed : {C : Type 0} (xs ys : List (Slot C)) (m : ℕ) (d₁ : Slot C) → Placed xs (m + 1) → m < length xs → Seated xs ys 0 (entry_at xs d₁ m) → Placed ys m
 top_placed xs ys m d₁ p lm s k d lk = let q = get_or_default xs m d₁ d lm in grind (arith, p k d, p m d)

@@ -1,5 +1,7 @@
--- What waits in a heap, as a list in the order of the pushes.
-use Rattle.std.specs.Prelude.{ℕ, Bool, true, false, cond, List, [], ◌∷◌, ◌++◌, map, Some, None, Option, ◌==◌, nat_lt}
+-- What waits in a heap, as a list in the order of the pushes. The crate `search` defines the same of its own entries: neither knows
+-- the other.
+use Rattle.std.specs.Prelude.{ℕ, Bool, cond, not, ◌&&◌, ◌||◌, List, [], ◌∷◌, ◌++◌, map, Some, None, Option, ◌==◌, nat_lt}
+use Rattle.std.specs.List.{filter}
 use Rattle.store.specs.declared.slots.Entry.{Entry}
 use Rattle.store.specs.declared.slots.Waiting.{Waiting}
 
@@ -22,8 +24,7 @@ queue es = map waiting (by_push es)
 
 -- the queue with nothing for row r
 abbrev pub without : {C : Type 0} → ℕ → List (Waiting C) → List (Waiting C)
-without r [] = []
-without r (x ∷ xs) = cond (x.row == r) (without r xs) (x ∷ without r xs)
+without r q = filter (λ x. not (x.row == r)) q
 
 -- what a push leaves: the row's older entry goes, and the new one comes last
 abbrev pub pushed : {C : Type 0} → List (Waiting C) → ℕ → C → C → List (Waiting C)
@@ -31,8 +32,7 @@ pushed q r e c = without r q ++ record { row = r; estimate = e; cost = c } ∷ [
 
 -- y, which was pushed after x, comes out before it
 abbrev pub overtakes : {C : Type 0} → (C → ℕ) → Waiting C → Waiting C → Bool
-overtakes w y x =
-    cond (nat_lt (w y.estimate) (w x.estimate)) true (cond (w y.estimate == w x.estimate) (nat_lt (w x.cost) (w y.cost)) false)
+overtakes w y x = nat_lt (w y.estimate) (w x.estimate) || (w y.estimate == w x.estimate && nat_lt (w x.cost) (w y.cost))
 
 abbrev pub sooner : {C : Type 0} → (C → ℕ) → Waiting C → Option (Waiting C) → Option (Waiting C)
 sooner w x None = Some x

@@ -8,7 +8,8 @@ pub record Listing (N V : Type 0) : Type 0 where
   pub listed : List (N × V)
   pub room : ℕ
 
--- what each call keeps: the rows in use are among those lent
+-- what each call keeps: at most 65,536 rows are lent, those in use are among them, their chains find every key, and no key stands
+-- twice
 pub record Kept {N V : Type 0} (key marks : N → ℕ) (rows : List (Row N V)) (len : ℕ) : Type 0 where
   pub fits : len ≤ length rows
   pub few : length rows ≤ 65536

@@ -1,19 +1,20 @@
 -- Rows of a register: their hash chains, and what they know as a list.
-use Rattle.std.specs.Prelude.{◌≡◌, ℕ, ◌+◌, ◌%◌, ◌<◌, ◌≤◌, cond, List, [], ◌∷◌, map, length, get_or, take, Some, None, Option, ◌==◌, slice_index_or, slice_set}
+use Rattle.std.specs.Prelude.{◌≡◌, ℕ, ◌%◌, ◌<◌, ◌≤◌, List, map, length, take, Option, ◌==◌, slice_index_or, slice_set, position}
 use Rattle.store.specs.declared.rows.Row.{Row}
 
 -- the bucket of the node in row k
 abbrev pub bucket : {N V : Type 0} → (N → ℕ) → List (Row N V) → Row N V → ℕ → ℕ
-bucket m xs d k = m (get_or xs k d).node % length xs
+bucket m xs d k = m (slice_index_or xs k d).node % length xs
 
 -- for each row of the first n: its bucket's head is the latest row of that bucket, and its `next` is the latest before it
 pub record Linked {N V : Type 0} (m : N → ℕ) (xs : List (Row N V)) (n : ℕ) : Type 0 where
-  pub heads : (r : ℕ) (d : Row N V) → r < n → ((get_or xs (bucket m xs d r) d).head < n) × (bucket m xs d (get_or xs (bucket m xs d r) d).head ≡ bucket m xs d r) × (r ≤ (get_or xs (bucket m xs d r) d).head)
-  pub nexts : (r j : ℕ) (d : Row N V) → r < n → j < r → bucket m xs d j ≡ bucket m xs d r → ((get_or xs r d).next < r) × (bucket m xs d (get_or xs r d).next ≡ bucket m xs d r) × (j ≤ (get_or xs r d).next)
+  pub heads : (r : ℕ) (d : Row N V) → r < n → ((slice_index_or xs (bucket m xs d r) d).head < n) × (bucket m xs d (slice_index_or xs (bucket m xs d r) d).head ≡ bucket m xs d r) × (r ≤ (slice_index_or xs (bucket m xs d r) d).head)
+  pub nexts : (r j : ℕ) (d : Row N V) → r < n → j < r → bucket m xs d j ≡ bucket m xs d r → ((slice_index_or xs r d).next < r) × (bucket m xs d (slice_index_or xs r d).next ≡ bucket m xs d r) × (j ≤ (slice_index_or xs r d).next)
 
 -- no two rows have one key
 abbrev pub Single : {N V : Type 0} → (N → ℕ) → List (Row N V) → ℕ → Type 0
-Single {N} {V} key xs n = (j k : ℕ) (d : Row N V) → j < n → k < n → key (get_or xs j d).node ≡ key (get_or xs k d).node → j ≡ k
+Single {N} {V} key xs n =
+    (j k : ℕ) (d : Row N V) → j < n → k < n → key (slice_index_or xs j d).node ≡ key (slice_index_or xs k d).node → j ≡ k
 
 abbrev pub known : {N V : Type 0} → Row N V → N × V
 known x = (x.node, x.value)
@@ -26,14 +27,9 @@ valued x v = record { node = x.node; value = v; next = x.next; head = x.head }
 unfoldable pub found : {N V : Type 0} → List (Row N V) → ℕ → List (N × V)
 found xs n = map known (take n xs)
 
-abbrev pub later : Option ℕ → Option ℕ
-later None = None
-later (Some k) = Some (k + 1)
-
 -- the number of a key
 abbrev pub number_of : {N V : Type 0} → (N → ℕ) → ℕ → List (N × V) → Option ℕ
-number_of key k [] = None
-number_of key k (x ∷ xs) = cond (key x.0 == k) (Some 0) (later (number_of key k xs))
+number_of key k l = position (λ x. key x.0 == k) l
 
 -- what holds of the entry at place k
 abbrev pub At : {X : Type 0} → List X → ℕ → (X → Type 0) → Type 0
@@ -41,4 +37,4 @@ At {X} l k P = (d : X) → P (slice_index_or l k d)
 
 -- the value at place k is now v
 abbrev pub Valued : {N V : Type 0} → List (N × V) → List (N × V) → ℕ → V → Type 0
-Valued {N} {V} l l' k v = (d : N × V) → l' ≡ slice_set l k ((get_or l k d).0, v)
+Valued {N} {V} l l' k v = (d : N × V) → l' ≡ slice_set l k ((slice_index_or l k d).0, v)

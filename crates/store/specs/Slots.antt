@@ -18,29 +18,32 @@ pub record Seating (C : Type 0) : Type 0 where
 abbrev pub entry_of : {C : Type 0} → Slot C → Entry C
 entry_of s = s.entry
 
+abbrev pub place_of : {C : Type 0} → Slot C → ℕ
+place_of s = s.place
+
 -- the entries of the first n slots
 abbrev pub entries : {C : Type 0} → List (Slot C) → ℕ → List (Entry C)
 entries xs n = map entry_of (take n xs)
 
--- the entry of a slot
-abbrev pub at : {C : Type 0} → List (Slot C) → Slot C → ℕ → Entry C
-at xs d k = (slice_index_or xs k d).entry
+-- the entry in slot k
+abbrev pub entry_at : {C : Type 0} → List (Slot C) → Slot C → ℕ → Entry C
+entry_at xs d k = (slice_index_or xs k d).entry
 
 -- each of the first n places has the entry of a row, whose slot says that place
 abbrev pub Placed : {C : Type 0} → List (Slot C) → ℕ → Type 0
 Placed {C} xs n =
-    (k : ℕ) (d : Slot C) → k < n → ((at xs d k).row < length xs) × ((slice_index_or xs (at xs d k).row d).place ≡ k)
+    (k : ℕ) (d : Slot C) → k < n → ((entry_at xs d k).row < length xs) × ((slice_index_or xs (entry_at xs d k).row d).place ≡ k)
 
 -- what each call keeps of the slots
-pub record Standing {C : Type 0} (slots : List (Slot C)) (len : ℕ) : Type 0 where
+pub record SlotsKept {C : Type 0} (slots : List (Slot C)) (len : ℕ) : Type 0 where
   pub fits : len ≤ length slots
   pub few : length slots ≤ 65536
   pub placed : Placed slots len
 
 -- what a write of entry e at place i leaves
 pub record Seated {C : Type 0} (xs ys : List (Slot C)) (i : ℕ) (e : Entry C) : Type 0 where
-  pub here : (d : Slot C) → at ys d i ≡ e
-  pub others : (k : ℕ) (d : Slot C) → (k ≢ i) → at ys d k ≡ at xs d k
+  pub here : (d : Slot C) → entry_at ys d i ≡ e
+  pub others : (k : ℕ) (d : Slot C) → (k ≢ i) → entry_at ys d k ≡ entry_at xs d k
   pub place : (d : Slot C) → (slice_index_or ys e.row d).place ≡ i
   pub places : (k : ℕ) (d : Slot C) → (k ≢ e.row) → (slice_index_or ys k d).place ≡ (slice_index_or xs k d).place
   pub long : length ys ≡ length xs
@@ -52,29 +55,28 @@ Apart es = IsDistinct (λ a b. a.push == b.push) es
 abbrev pub Counted : {C : Type 0} → List (Entry C) → ℕ → Type 0
 Counted es c = All (λ e. e.push < c) es
 
--- p is the parent of i in the tree: 2 * p < i and i ≤ 2 * p + 2. Each parent comes out before its children
-abbrev pub Order : {E : Type 0} → (E → E → Type 0) → (ℕ → E) → ℕ → Type 0
-Order R f n = (p i : ℕ) → 2 * p < i → i ≤ 2 * p + 2 → i < n → R (f p) (f i)
-
--- the same but for the entry at h
-abbrev pub Loose : {E : Type 0} → (E → E → Type 0) → (ℕ → E) → ℕ → ℕ → Type 0
-Loose R f n h =
-    ((p i : ℕ) → 2 * p < i → i ≤ 2 * p + 2 → i < n → (i ≢ h) → (p ≢ h) → R (f p) (f i))
-    × ((g i : ℕ) → 2 * g < h → h ≤ 2 * g + 2 → 2 * h < i → i ≤ 2 * h + 2 → i < n → R (f g) (f i))
-
 -- the entry at a place
 abbrev pub nth : {C : Type 0} → List (Entry C) → Entry C → ℕ → Entry C
 nth es d k = slice_index_or es k d
 
-abbrev pub Heaped : {C : Type 0} → (C → ℕ) → List (Entry C) → Type 0
-Heaped {C} w es = (d : Entry C) → Order (Ahead w) (nth es d) (length es)
+-- place i is a child of place p in the tree
+abbrev pub Child : (p i : ℕ) → Type 0
+Child p i = (2 * p < i) × (i ≤ 2 * p + 2)
 
+-- each parent comes out before its children
+abbrev pub Heaped : {C : Type 0} → (C → ℕ) → List (Entry C) → Type 0
+Heaped {C} w es = (d : Entry C) (p i : ℕ) → Child p i → i < length es → Ahead w (nth es d p) (nth es d i)
+
+-- the same but for the entry at h, whose parent comes out before its children
 abbrev pub HeapedBut : {C : Type 0} → (C → ℕ) → List (Entry C) → ℕ → Type 0
-HeapedBut {C} w es h = (d : Entry C) → Loose (Ahead w) (nth es d) (length es) h
+HeapedBut {C} w es h =
+    (d : Entry C)
+    → ((p i : ℕ) → Child p i → i < length es → (i ≢ h) → (p ≢ h) → Ahead w (nth es d p) (nth es d i))
+    × ((g i : ℕ) → Child g h → Child h i → i < length es → Ahead w (nth es d g) (nth es d i))
 
 -- the parent of h comes out before h
 abbrev pub Under : {C : Type 0} → (C → ℕ) → List (Entry C) → ℕ → Type 0
-Under {C} w es h = (d : Entry C) (p : ℕ) → 2 * p < h → h ≤ 2 * p + 2 → Ahead w (nth es d p) (nth es d h)
+Under {C} w es h = (d : Entry C) (p : ℕ) → Child p h → Ahead w (nth es d p) (nth es d h)
 
 -- what each call keeps of the entries, where the next push has number c
 pub record Sound {C : Type 0} (w : C → ℕ) (es : List (Entry C)) (c : ℕ) : Type 0 where

@@ -1,13 +1,10 @@
 // The hash chains of a register: rows of one bucket are linked from the latest to the earliest.
-ghost use Rattle.std.specs.Prelude.{◌≡◌, ℕ, ◌+◌, ◌<◌, ◌≤◌, [], ◌∷◌, ◌++◌, length, Some, None, MatchOption, ◌≢◌, ◌==◌, slice_index_or};
+ghost use Rattle.std.specs.Prelude.{◌≡◌, ℕ, ◌+◌, ◌%◌, ◌<◌, ◌≤◌, [], ◌∷◌, ◌++◌, length, Some, None, MatchOption, ◌≢◌, ◌==◌, slice_index_or};
 ghost use Rattle.store.specs.declared.rows.Row.{Row};
 ghost use Rattle.store.specs.Rows.{Linked, Single, found};
 
 use crate::rows::Row;
 use kinds::NodeKind;
-
-// Both functions take the rows and how many are in use. As methods of the register they would say the same of its fields, and be no
-// plainer.
 
 // Whether the node of row i has the node's key: a function, so that a clause pins the test.
 fn same_at<N: NodeKind, V: Copy>(rows: &[Row<N, V>], i: usize, node: &N) -> bool
@@ -16,6 +13,17 @@ fn same_at<N: NodeKind, V: Copy>(rows: &[Row<N, V>], i: usize, node: &N) -> bool
 {
     rows[i].node == *node
 }
+
+// The bucket of a node.
+fn bucket_of<N: NodeKind, V: Copy>(rows: &[Row<N, V>], node: &N) -> usize
+    requires { 0 < length rows.now }
+    ensures { result ≡ N.marks node.now % length rows.now }
+{
+    node.mark() as usize % rows.len()
+}
+
+// `seek` and `insert` take the rows and how many are in use. As methods of the register they would say the same of its fields, and
+// be no plainer.
 
 // The row of the node's key among the first n.
 pub(crate) fn seek<N: NodeKind, V: Copy>(rows: &[Row<N, V>], n: usize, node: &N) -> Option<usize>
@@ -26,11 +34,11 @@ pub(crate) fn seek<N: NodeKind, V: Copy>(rows: &[Row<N, V>], n: usize, node: &N)
     if n == 0 {
         return None;
     }
-    let bucket = node.mark() as usize % rows.len();
+    let bucket = bucket_of(rows, node);
     // A walk along a chain, which no range has; the key has no row from `end` on.
     let mut end = n;
     let mut row = rows[bucket].head as usize;
-    while row < end && rows[row].node.mark() as usize % rows.len() == bucket {
+    while row < end && bucket_of(rows, &rows[row].node) == bucket {
         if same_at(rows, row, node) {
             return Some(row);
         }
@@ -51,7 +59,7 @@ pub(crate) fn insert<N: NodeKind, V: Copy>(rows: &mut [Row<N, V>], n: usize, nod
     ensures single { Single N.key rows.new (n + 1) }
     ensures found { found rows.new (n + 1) ≡ found rows.old n ++ (node, value) ∷ [] }
 {
-    let bucket = node.mark() as usize % rows.len();
+    let bucket = bucket_of(rows, &node);
     rows[n] = Row {
         node,
         value,

@@ -7,8 +7,8 @@ use crate::slots::{Entry, Slot, Waiting};
 use kinds::CostKind;
 use std::marker::Model;
 
-// A heap over lent slots; `count` is the number of the next push. That slots are few is asked of the slice, which is no type of ours, and
-// that they stay as many each change says.
+// A heap over lent slots; `count` is the number of the next push. That slots are few is asked of the slice, which is no type of
+// ours, and that they stay as many each change says.
 #[derive(Drop)]
 pub struct Heap<'a, C: CostKind> {
     places: Places<'a, C>,

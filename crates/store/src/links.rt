@@ -7,8 +7,8 @@ use std::marker::Model;
 // them yet.
 #[derive(Clone, Copy, Debug)]
 pub struct Link {
-    pub parent: u16,
-    pub next: u16,
+    parent: u16,
+    next: u16,
 }
 
 impl Link {

@@ -3,7 +3,7 @@ ghost use Rattle.std.specs.Prelude.{◌≡◌, ℕ, ◌+◌, ◌*◌, ◌<◌, �
 ghost use Rattle.std.specs.List.{swap};
 ghost use Rattle.std.specs.List.Sorted.{IsPermutation};
 ghost use Rattle.store.specs.declared.slots.Entry.{Entry};
-ghost use Rattle.store.specs.Slots.{nth, Ahead, Apart, Counted, Seated, Heaped, HeapedBut, Under, Sound};
+ghost use Rattle.store.specs.Slots.{nth, Ahead, Apart, Counted, Seated, Child, Heaped, HeapedBut, Under, Sound};
 ghost use Rattle.store.specs.Queue.{queue, pushed, first_out, left, waiting};
 
 use crate::deal::deal;
@@ -13,8 +13,8 @@ use std::marker::Model;
 
 // The first `len` slots have the entries, and the slot of a row has the place of its entry. The length stands beside the slots,
 // since they are lent and nothing is allocated. Contracts see the entries as a list; that they are a heap is asked for and promised
-// one by one, since it does not hold in the midst of a walk. A lent slice keeps its length, which each change says as `rows`. Where a
-// method begins with `let slots`, the check would ask for an index before it opens the value.
+// one by one, since it does not hold in the midst of a walk. A lent slice keeps its length, which each change says as `rows`. Where
+// a method begins with `let slots`, the check would ask for an index before it opens the value.
 #[derive(Drop)]
 pub(crate) struct Places<'a, C: CostKind> {
     slots: &'a mut [Slot<C>],
@@ -23,13 +23,13 @@ pub(crate) struct Places<'a, C: CostKind> {
 
 impl<'a, C: CostKind> Model for Places<'a, C> {
     ghost use Rattle.std.specs.Prelude.{length};
-    ghost use Rattle.store.specs.Slots.{Seating, Standing, entries};
+    ghost use Rattle.store.specs.Slots.{Seating, SlotsKept, entries};
 
     ghost Value = { Seating C };
 
     ghost view = { λ p. record { entries = entries p.slots.now p.len; rows = length p.slots.now } };
 
-    ghost invariant = { λ p. Standing p.slots.now p.len };
+    ghost invariant = { λ p. SlotsKept p.slots.now p.len };
 }
 
 // Puts an entry at place i, and notes the place for its row.
@@ -129,9 +129,8 @@ impl<'a, C: CostKind> Places<'a, C> {
     fn best_child(&self, h: usize) -> usize
         requires { 2 * h + 1 < length self.now.entries }
         ensures inside { result < length self.now.entries }
-        ensures above { 2 * h < result }
-        ensures below { result ≤ 2 * h + 2 }
-        ensures best { (d : Entry C) (i : ℕ) → 2 * h < i → i ≤ 2 * h + 2 → i < length self.now.entries → Ahead C.weight (nth self.now.entries d result) (nth self.now.entries d i) }
+        ensures child { Child h result }
+        ensures best { (d : Entry C) (i : ℕ) → Child h i → i < length self.now.entries → Ahead C.weight (nth self.now.entries d result) (nth self.now.entries d i) }
     {
         let len = self.len();
         let left = 2 * h + 1;
@@ -176,8 +175,8 @@ impl<'a, C: CostKind> Places<'a, C> {
         self.sink(h);
     }
 
-    // The place of the entry of a row. An `if`: with `then_some` the check does not find the proof alone, and an answer of thirty lines is
-    // no plainer.
+    // The place of the entry of a row. An `if`: with `then_some` the check does not find the proof alone, and an answer of thirty
+    // lines is no plainer.
     #[tactic(auto, using(crate::proofs::Seats::length_entries, crate::proofs::Seats::entries_at, crate::proofs::Seats::place_is))]
     fn place_of(&self, row: u16) -> Option<usize>
         requires { row < self.now.rows }

@@ -5,10 +5,10 @@ ghost use Rattle.std.specs.Prelude.{◌≡◌};
 // each other by number, since they are lent and nothing is allocated.
 #[derive(Clone, Copy)]
 pub struct Row<N, V> {
-    pub node: N,
-    pub value: V,
-    pub next: u16,
-    pub head: u16,
+    pub(crate) node: N,
+    pub(crate) value: V,
+    pub(crate) next: u16,
+    pub(crate) head: u16,
 }
 
 impl<N, V> Row<N, V> {

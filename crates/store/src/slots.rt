@@ -14,11 +14,11 @@ pub struct Waiting<C> {
 
 // A row that waits, with its estimate, its cost, and the number of its push; flat, since the heap reads the four one by one.
 #[derive(Clone, Copy)]
-pub struct Entry<C> {
-    pub row: u16,
-    pub estimate: C,
-    pub cost: C,
-    pub push: u64,
+pub(crate) struct Entry<C> {
+    pub(crate) row: u16,
+    pub(crate) estimate: C,
+    pub(crate) cost: C,
+    pub(crate) push: u64,
 }
 
 // The row that waits, without the number of its push.
@@ -54,9 +54,9 @@ impl<C: CostKind> Entry<C> {
 // The three stand in one slot, since a row has one slot and no more memory is lent.
 #[derive(Clone, Copy)]
 pub struct Slot<C> {
-    pub entry: Entry<C>,
-    pub place: u16,
-    pub order: u32,
+    pub(crate) entry: Entry<C>,
+    pub(crate) place: u16,
+    pub(crate) order: u32,
 }
 
 impl<C: CostKind> Slot<C> {

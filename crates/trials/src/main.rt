@@ -4,6 +4,8 @@
 mod containers;
 mod drawing;
 mod layers;
+mod lines;
+mod outputs;
 mod searches;
 mod soak;
 mod steps;
@@ -11,6 +13,8 @@ mod steps;
 fn main(rt: HostRuntime) -> anyhow::Result<()> {
     containers::containers(&rt)?;
     searches::searches(&rt)?;
+    outputs::outputs(&rt)?;
+    lines::lines(&rt)?;
     layers::layers(&rt)?;
     soak::soak(&rt)
 }

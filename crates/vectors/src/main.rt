@@ -2,7 +2,7 @@
 // printed for all of them is compared with the file `stdout`. `oracle/replay` makes both files.
 #![tactic(auto)]
 
-ghost use Rattle.std.specs.Prelude.{◌<◌};
+ghost use Rattle.std.specs.Prelude.{◌≡◌, ◌-◌, ◌<◌, ◌&&◌, if◌then◌else◌, nat_le};
 
 use report::{LINKS, ROWS};
 use std::alloc::{AllocError, Global};
@@ -11,7 +11,8 @@ use std::io::{BufRead, BufReader};
 // What a hexadecimal digit stands for; zero for any other byte, also for a capital, which `to_digit` would take; the library's
 // decoding would end the program there.
 fn digit(byte: u8) -> u8
-    ensures { result < 16 }
+    ensures small { result < 16 }
+    ensures value { result ≡ (if nat_le 48 byte && nat_le byte 57 then byte - 48 else (if nat_le 97 byte && nat_le byte 102 then byte - 87 else 0)) }
 {
     match byte {
         b'0'..=b'9' => byte - b'0',

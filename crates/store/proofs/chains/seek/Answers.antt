@@ -18,11 +18,11 @@ loop-row-preserved g c = (
   λ k d lk e.
       let i = c.loop-row.invariant.1 k d lk e in
       let r = c.index-rows-row-in-loop-row.result in
-      rw c.mark.ensures (from_next g.N.NodeKind.key g.N.NodeKind.marks g.met.N.NodeKind.alike c.requires.linked c.requires.fits c.args.node.now c.loop-row.row k d r r (omega (arith, c.loop-row.invariant.0))
-      (sym (c.same_at.ensures r) ∙ c.if-same_at.false) e (rw c.mark.ensures at i.1) i.2),
+      rw c.bucket_of-bucket.ensures (from_next g.N.NodeKind.key g.N.NodeKind.marks g.met.N.NodeKind.alike c.requires.linked c.requires.fits c.args.node.now c.loop-row.row k d r r (omega (arith, c.loop-row.invariant.0))
+      (sym (c.same_at.ensures r) ∙ c.if-same_at.false) e (rw c.bucket_of-bucket.ensures at i.1) i.2),
 )
 
-pub returns-else-mark-rows : goal.returns-else-mark-rows
-returns-else-mark-rows g c k d lk e =
+pub returns-else-bucket_of-bucket : goal.returns-else-bucket_of-bucket
+returns-else-bucket_of-bucket g c k d lk e =
     let i = c.loop-row.invariant.1 k d lk e in
     grind (arith, get_or_default)

@@ -1,8 +1,7 @@
 use Rattle.std.proofs.Common.{ℕ, ◌-◌, [], length, arith}
-use Rattle.std.proofs.lemmas.List.{get_or-map, length-map}
-use Rattle.search.specs.Rows.{no_row}
+use Rattle.std.proofs.lemmas.List.{length-map}
 use Rattle.planner.specs.Views.{row_of, rows_of}
-use Rattle.planner.proofs.Maps.{some_of, parents_at}
+use Rattle.planner.proofs.Maps.{reached_is, parents_at}
 use Rattle.planner.proofs.Tracing.{length_walk, steps_more, steps_root, steps_last}
 use Rattle.planner.proofs.frontier.Frontier.depth.Goals as goal
 
@@ -12,10 +11,8 @@ loop-depth-preserved g c =
     let at = c.loop-depth.at in
     let inv = c.loop-depth.invariant in
     let rows = rows_of g.N.NodeKind.key g.C.CostKind.weight l in
-    let d = some_of l at inv.0 in
-    let e = c.value-at.ensures d in
-    let q = get_or-map (row_of g.N.NodeKind.key g.C.CostKind.weight) l at d no_row inv.0 in
-    let p = parents_at (length l) l at d inv.0 c.self.invariant.parents in
+    let r = reached_is g.N.NodeKind.key g.C.CostKind.weight l at c.value-at.result inv.0 c.value-at.ensures in
+    let p = parents_at (length l) l at c.value-at.result inv.0 c.value-at.ensures c.self.invariant.parents in
     let f : ℕ = c.len-all.result - c.loop-depth.depth in
     let s = steps_more f rows at (λ z. c.if-at-eq0.false z) in
     grind arith

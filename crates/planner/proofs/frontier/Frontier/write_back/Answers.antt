@@ -1,10 +1,8 @@
 use Rattle.std.proofs.Common.{◌≡◌, ℕ, suc, ◌-◌, ◌∷◌, length, drop, set, arith}
 use Rattle.std.proofs.lemmas.Grind.{common_steps}
-use Rattle.std.proofs.lemmas.List.{get_or-map}
 use Rattle.std.proofs.Math.Seq.{drop-length}
-use Rattle.search.specs.Rows.{no_row}
-use Rattle.planner.specs.Views.{row_of, rows_of}
-use Rattle.planner.proofs.Maps.{lists, some_of, parents_at}
+use Rattle.planner.specs.Views.{rows_of}
+use Rattle.planner.proofs.Maps.{lists, row_is, parents_at}
 use Rattle.planner.proofs.Tracing.{left_none, left_step, left_begin}
 use Rattle.planner.proofs.frontier.Frontier.write_back.Goals as goal
 
@@ -27,14 +25,11 @@ loop-place-preserved g c =
     let m : ℕ = c.loop-place.place - 1 in
     let out = c.loop-place.out in
     let inv = c.loop-place.invariant in
-    let d = some_of l at inv.0 in
-    let r = get_or-map (row_of key w) l at d no_row inv.0 in
-    let v = c.value-at.ensures d in
-    let n = c.node.ensures d in
+    let r = row_is key w l at c.node.result c.value-at.result inv.0 c.node.ensures c.value-at.ensures in
     let z : c.loop-place.place ≡ suc m = omega arith in
     let t : drop m (set out m c.node.result) ≡ c.node.result ∷ drop (suc m) out = grind (arith, common_steps) in (
-      (let p = parents_at (length l) l at d inv.0 c.self.invariant.parents in grind arith),
-      rw t (left_step rows _ m at c.value-at.result.parent (key c.node.result) _ (rw z at inv.1) (rw (r, v)) (rw (r, n))),
+      parents_at (length l) l at c.value-at.result inv.0 c.value-at.ensures c.self.invariant.parents,
+      rw t (left_step rows _ m at c.value-at.result.parent (key c.node.result) _ (rw z at inv.1) (rw r) (rw r)),
     )
 
 pub returns : goal.returns

@@ -4,17 +4,17 @@ use Rattle.store.proofs.Dealing.{dealt_stands, dealt_is, dealt_sound, dealt_queu
 use Rattle.store.proofs.places.Places.deal.Goals as goal
 
 pub invariant_of-self : goal.invariant_of-self
-invariant_of-self g c = rw c.deal.ensures (dealt_stands _ _ c.self.invariant.fits c.self.invariant)
+invariant_of-self g c = dealt_stands _ _ _ c.self.invariant.fits c.deal.ensures.entries c.deal.ensures.places c.self.invariant
 
 pub returns-clause-sound : goal.returns-clause-sound
 returns-clause-sound g c =
     let xs = c.self.inside.slots.now in
     let n = c.self.inside.len in
-    rw (c.deal.ensures, dealt_is xs n c.self.invariant.fits)
+    rw (dealt_is xs _ n c.self.invariant.fits c.deal.ensures.entries c.deal.ensures.places)
     (rw (length_entries xs n c.self.invariant.fits) at (dealt_sound (entries xs n) g.C.CostKind.weight (rw (← c.self.view_is) at c.requires.apart) (rw (← c.self.view_is) at c.requires.heaped)))
 
 pub returns-clause-queue : goal.returns-clause-queue
 returns-clause-queue g c =
     let xs = c.self.inside.slots.now in
     let n = c.self.inside.len in
-    rw (c.deal.ensures, dealt_is xs n c.self.invariant.fits, ← c.self.view_is) (dealt_queue (entries xs n))
+    rw (dealt_is xs _ n c.self.invariant.fits c.deal.ensures.entries c.deal.ensures.places, ← c.self.view_is) (dealt_queue (entries xs n))

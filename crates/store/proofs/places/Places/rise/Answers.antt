@@ -12,7 +12,7 @@ loop-h-preserved g c =
     let long = length_permutation es fs p in
     record {
       inside = omega arith;
-      loose = raised g.C.CostKind.weight es fs c.loop-h.h _ (omega arith) (omega arith) v.inside c.exchange.ensures.swapped v.loose;
+      loose = raised g.C.CostKind.weight es fs c.loop-h.h _ (omega arith, omega arith) v.inside c.exchange.ensures.swapped v.loose;
       same = IsPermutation-trans _ es fs v.same p;
       rows = c.exchange.ensures.rows ∙ v.rows;
     }

@@ -1,7 +1,7 @@
 use Rattle.std.proofs.Common.{◌≡◌, ◌-◌, ◌∷◌, length, refl, ◌∙◌, arith}
 use Rattle.std.specs.List.Sorted.{IsPermutation}
 use Rattle.std.proofs.lemmas.List.Sorted.{IsPermutation-cons, IsPermutation-trans}
-use Rattle.store.specs.Slots.{at, entries, Heaped}
+use Rattle.store.specs.Slots.{entry_at, entries, Heaped}
 use Rattle.store.proofs.Seats.{rows_differ}
 use Rattle.store.proofs.Turns.{queue_none, taken, last_taken, popped, top_out}
 use Rattle.store.proofs.places.Places.take_first.Goals as goal
@@ -28,16 +28,16 @@ returns g c =
     let a = rw (← c.self.view_is) at c.requires.apart in
     let h = rw (← c.self.view_is) at c.requires.heaped in
     let zs = c.if-self-gt0.self.entries in
-    let left : IsPermutation (entries xs n) (at xs d 0 ∷ zs) × Heaped w zs × (c.if-self-gt0.self.rows ≡ length xs) =
+    let left : IsPermutation (entries xs n) (entry_at xs d 0 ∷ zs) × Heaped w zs × (c.if-self-gt0.self.rows ≡ length xs) =
     elim c.if-self-gt0.branch [
       | then-self-gt0 v ↦
           let t = taken w xs v.seat.new.slots n (n - 1) d v.index-self-self.result (omega (arith, c.if-self-eq0.false)) k h v.seat.ensures in
           rw v.self-is (IsPermutation-trans _ _ _ t.mixed (IsPermutation-cons _ _ _ v.settle.ensures.same), v.settle.ensures.heaped, v.settle.ensures.rows ∙ v.seat.ensures.long)
       | else-self-gt0 v ↦
           let z : n - 1 ≡ 0 = omega (arith, v.if-self-gt0.false) in
-          rw (v.self-is, z) (last_taken xs n d (omega (arith, c.if-self-eq0.false)) k.fits, λ e p i a b lt. absurd (omega arith), refl)
+          rw (v.self-is, z) (last_taken xs n d (omega (arith, c.if-self-eq0.false)) k.fits, λ e p i a lt. absurd (omega arith), refl)
     ] in
-    let o = popped (entries xs n) zs (at xs d 0) a (rows_differ xs n k.fits k.placed) left.0 in
+    let o = popped (entries xs n) zs (entry_at xs d 0) a (rows_differ xs n k.fits k.placed) left.0 in
     rw (← c.self.view_is) record {
       sound = λ b co. record { apart = o.apart; counted = o.counted b co; heaped = left.1 };
       first = top_out w xs n d (omega (arith, c.if-self-eq0.false)) k.fits a h;

@@ -1,0 +1,48 @@
+-- The graph that a drawing stands for, its field under its fences and tolls; and what a search over it answers.
+use Rattle.std.specs.Prelude.{ℕ, Option, Result}
+use Rattle.kinds.specs.Cell.{cell_key}
+use Rattle.kinds.specs.Millis.{millis_kind}
+use Rattle.kinds.specs.declared.cell.Cell.{Cell}
+use Rattle.kinds.specs.declared.millis.Millis.{Millis}
+use Rattle.graph.specs.declared.layers.Layers.{Layers}
+use Rattle.graph.specs.Meaning.{Meaning}
+use Rattle.graph.specs.Laid.{laid, laid_guess}
+use Rattle.field.specs.declared.grid.Field.{Field}
+use Rattle.field.specs.Means.{field_meaning, field_guess}
+use Rattle.search.specs.Calls.{Held}
+use Rattle.report.specs.declared.method.Method.{Method}
+use Rattle.report.specs.Names.{method_of}
+use Rattle.report.specs.declared.priced.PricedRoute.{PricedRoute}
+use Rattle.report.specs.declared.priced.RouteRefusal.{RouteRefusal}
+use Rattle.report.specs.Priced.{Answered, Cheapest, Calls}
+use Rattle.map.specs.declared.drawing.Drawing.{Drawing}
+
+abbrev pub key_of : Cell → ℕ
+key_of cell = cell_key cell.column cell.row
+
+abbrev pub weight_of : Millis → ℕ
+weight_of cost = cost.millis
+
+-- the graph of a drawing, and its guess
+abbrev pub ground : Drawing → Meaning
+ground d = laid millis_kind weight_of d.plan.layers (field_meaning d.plan.layout d.map.items)
+
+abbrev pub ground_guess : Drawing → ℕ → ℕ
+ground_guess d = laid_guess millis_kind weight_of d.plan.layers (field_meaning d.plan.layout d.map.items) (field_guess d.plan.layout d.map.items)
+
+-- what a field under layers means as a graph, and its guess
+abbrev pub meant : Layers Field Millis → Meaning
+meant pile = laid millis_kind weight_of pile.layers.now (field_meaning pile.bottom.layout pile.bottom.map.now)
+
+abbrev pub guessed : Layers Field Millis → ℕ → ℕ
+guessed pile =
+    laid_guess millis_kind weight_of pile.layers.now (field_meaning pile.bottom.layout pile.bottom.map.now) (field_guess pile.bottom.layout pile.bottom.map.now)
+
+-- a search over a drawing answers a cheapest route from its start, with its cost; or none, where none begins there; or a refusal
+abbrev pub Surveyed : Drawing → Result (Option (PricedRoute Cell Millis)) RouteRefusal → Type 0
+Surveyed d result = Answered key_of weight_of (Cheapest (ground d) (key_of d.plan.start)) (ground d) (key_of d.plan.start) result
+
+-- and it makes these calls, which say when it is refused
+abbrev pub SurveyCalls : Drawing → Method → (room : ℕ) → Held → Result (Option (PricedRoute Cell Millis)) RouteRefusal → Held → Type 0
+SurveyCalls d method room s result t =
+    Calls key_of weight_of millis_kind (method_of method) (ground d) (ground_guess d) (key_of d.plan.start) room s result t
