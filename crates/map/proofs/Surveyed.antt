@@ -13,7 +13,7 @@ use Rattle.search.specs.Answers.{Method, dijkstra, astar}
 use Rattle.search.specs.Laws.{Guided}
 use Rattle.report.specs.declared.priced.PricedRoute.{PricedRoute}
 use Rattle.report.specs.declared.priced.RouteRefusal.{RouteRefusal}
-use Rattle.report.specs.Priced.{Taken, Cheapest, Answered}
+use Rattle.report.specs.Priced.{FoundRoute, Cheapest, Answered}
 use Rattle.map.specs.Ground.{meant, guessed, key_of, weight_of}
 
 guided : (m : Method) (pile : Layers Field Millis) → Guided millis_kind m (meant pile) (guessed pile)
@@ -28,7 +28,7 @@ guided astar pile =
     }
 
 -- so that what is found there is a cheapest route
-pub cheapest : (m : Method) (pile : Layers Field Millis) (start : ℕ) (result : Result (Option (PricedRoute Cell Millis)) RouteRefusal) → Answered key_of weight_of (Taken millis_kind m (meant pile) (guessed pile) start) (meant pile) start result → Answered key_of weight_of (Cheapest (meant pile) start) (meant pile) start result
+pub cheapest : (m : Method) (pile : Layers Field Millis) (start : ℕ) (result : Result (Option (PricedRoute Cell Millis)) RouteRefusal) → Answered key_of weight_of (FoundRoute millis_kind m (meant pile) (guessed pile) start) (meant pile) start result → Answered key_of weight_of (Cheapest (meant pile) start) (meant pile) start result
 cheapest m pile start (Ok (Some found)) a = a.cheapest (guided m pile)
 cheapest m pile start (Ok None) a = a
 cheapest m pile start (Err e) a = a

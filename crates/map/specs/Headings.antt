@@ -29,3 +29,13 @@ TakesHeader old (Target cell) result now = Keeps old.target (record old { target
 TakesHeader old (Fence zones) result now = (result ≡ Ok false) × (now ≡ record old { layers = old.layers ++ layer.Fence zones ∷ [] })
 TakesHeader old (Toll charge) result now = (result ≡ Ok false) × (now ≡ record old { layers = old.layers ++ layer.Toll charge.cost charge.zones ∷ [] })
 TakesHeader old Map result now = (result ≡ Ok true) × (now ≡ old)
+
+-- a fence or a toll is laid, for which there may be no memory
+abbrev pub is_laid : Header → Bool
+is_laid Blank = false
+is_laid (Field size) = false
+is_laid (Start cell) = false
+is_laid (Target cell) = false
+is_laid (Fence zones) = true
+is_laid (Toll charge) = true
+is_laid Map = false

@@ -6,13 +6,13 @@ use Rattle.graph.specs.declared.layers.Layer.{Layer}
 use Rattle.field.specs.declared.layout.Layout.{Layout}
 use Rattle.map.specs.declared.header.Size.{Size}
 
--- all of them: a field, a start, and the layers over the field, the lowest first
+-- a whole plan: a field, a start, and the layers over the field, the lowest first
 pub record Planned : Type 0 where
   pub layout : Layout
   pub start : Cell
   pub layers : List (Layer Millis)
 
--- some of them
+-- what was said so far
 pub record Said : Type 0 where
   pub size : Option Size
   pub start : Option Cell

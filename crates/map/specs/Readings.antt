@@ -1,4 +1,4 @@
--- What a text says, line by line: a plan and the bytes of a map, or the first problem. The line below so many has the next number.
+-- What a text says, line by line: a plan and the bytes of a map, or the first problem. Below `taken` lines the next has number taken + 1.
 use Rattle.std.specs.Prelude.{◌≡◌, ℕ, ◌+◌, ◌==◌, ◌⊎◌, Bool, true, false, List, [], ◌∷◌, length, nat_lt, if◌then◌else◌, None, Option, Some, Result, Ok, Err}
 use Rattle.std.specs.Str.{trim_end}
 use Rattle.std.specs.Str.Lines.{lines}
@@ -56,7 +56,7 @@ abbrev pub in_line : {T : Type 0} → ℕ → Result T Mistake → Result T Prob
 in_line number (Ok x) = Ok x
 in_line number (Err mistake) = Err (at number mistake)
 
--- these bytes of the rows that were found with those of the other rows, and what is left below the last row
+-- the rows from `found` on: these bytes with theirs behind them, and what is left below the last
 abbrev pub rows_read : Layout → ℕ → List ℕ → ℕ → List (List ℕ) → Result (List ℕ × LinesLeft) Problem
 rows_read layout found bytes taken [] =
     if nat_lt found layout.rows then Err (at (number_after taken) (Short layout.rows found)) else Ok (bytes, record { taken = taken; lines = [] })
@@ -81,6 +81,6 @@ Reads text reading =
     (head : Result (Planned × LinesLeft) Problem) × ReadsPlan no_heading 0 (lines text) head
     × (reading ≡ and_then (λ (plan, below). and_then (λ bytes. Ok (plan, bytes)) (map_read plan.layout below)) head)
 
--- and it says nothing else
+-- it says one thing
 pub record HasOneReading (text : List ℕ) : Type 0 where
   pub only : (a b : Result (Planned × List ℕ) Problem) → Reads text a → Reads text b → a ≡ b

@@ -39,6 +39,7 @@ impl<'a> Iterator for NumberedLines<'a> {
 }
 
 impl<'a> NumberedLines<'a> {
+    // All lines of a text.
     pub fn of(text: &'a str) -> NumberedLines<'a>
         ensures { result ≡ record { taken = 0; lines = lines text.now } }
     {

@@ -18,8 +18,13 @@ mod words;
 
 fn main(rt: HostRuntime) -> anyhow::Result<()> {
     let text = io::read_to_string(rt.alloc(), rt.stdin())?;
-    match reader::read(rt.alloc(), text.as_str()) {
-        Ok(drawing) => searches::run(&rt, &drawing),
+    answer(&rt, text.as_str())
+}
+
+// Prints what the searches over a drawing come to, or what is wrong with it.
+fn answer<R: Print + AllocGlobal>(rt: &R, text: &str) -> anyhow::Result<()> {
+    match reader::read(rt.alloc(), text) {
+        Ok(drawing) => searches::run(rt, &drawing),
         Err(problem) => Ok(println!(rt; "{problem}")?),
     }
 }

@@ -74,7 +74,7 @@ impl<T: Drop> From<AllocFailed<T>> for Mistake {
     ghost from_gives = { λ _ mistake. mistake ≡ Memory };
 
     fn from(_error: AllocFailed<T>) -> Mistake {
-        Mistake::Memory
+        Mistake::from(AllocError)
     }
 }
 

@@ -1,12 +1,12 @@
 // A drawing read line by line.
-ghost use Rattle.std.specs.Prelude.{◌≡◌, ◌⊎◌, [], MatchOption, MatchResult};
+ghost use Rattle.std.specs.Prelude.{◌≡◌, ◌⊎◌, [], true, MatchOption, MatchResult};
 ghost use Rattle.map.specs.declared.mistake.Mistake.TheVariants.{Memory};
 ghost use Rattle.map.specs.Rows.{ReadsRow};
 ghost use Rattle.map.specs.Plans.{Said};
-ghost use Rattle.map.specs.Headings.{plan_of, TakesHeader};
+ghost use Rattle.map.specs.Headings.{plan_of, is_laid, TakesHeader};
 ghost use Rattle.map.specs.Readings.{no_heading, TakesHeading, ReadsPlan, rows_read, end_read, Reads, HasOneReading};
 
-use crate::drawing::{Charge, Drawing, Plan};
+use crate::drawing::{Drawing, Plan};
 use crate::header::{Header, Size};
 use crate::lines::NumberedLines;
 use crate::mistake::{Mistake, Problem};
@@ -74,7 +74,8 @@ impl Heading {
 
     // Takes what the next line says, and answers whether the map begins below it.
     fn take(&mut self, header: Header) -> Result<bool, Mistake>
-        ensures { (result ≡ Err Memory) ⊎ TakesHeader self.old header result self.new }
+        ensures takes { (result ≡ Err Memory) ⊎ TakesHeader self.old header result self.new }
+        ensures laid { (result ≡ Err Memory) → is_laid header ≡ true }
     {
         match header {
             Header::Blank => {}
@@ -86,11 +87,9 @@ impl Heading {
                 self.layers.push(layer)?
             }
             Header::Toll(charge) => {
+                let cost = charge.cost;
                 let charged = charge.zones;
-                let layer = Layer::Toll {
-                    cost: charge.cost,
-                    charged,
-                };
+                let layer = Layer::Toll { cost, charged };
                 self.layers.push(layer)?
             }
             Header::Map => return Ok(true),
@@ -148,6 +147,7 @@ fn read_rows(heap: Global, lines: &mut NumberedLines, layout: Layout) -> Result<
         let Some((number, line)) = lines.next() else {
             return Err(Mistake::Short { rows, found }.at(lines.next_number()));
         };
+        // After `.map_err(..)?` the rest would want a proof of its own.
         if let Err(mistake) = add_row(&mut map, columns, line) {
             return Err(mistake.at(number));
         }

@@ -59,9 +59,10 @@ struct Survey<'a, R> {
     rt: &'a R,
     drawing: &'a Drawing,
     pile: Pile<'a>,
+    // The rows of the map can be cut, and the pile means the drawing's graph, with its guess.
     ghost wide: { 0 < drawing.now.plan.layout.columns },
     ghost drawn: { meant pile ≡ ground drawing.now },
-    ghost guided: { guessed pile ≡ ground_guess drawing.now },
+    ghost guesses: { guessed pile ≡ ground_guess drawing.now },
 }
 
 impl<R: Print + AllocGlobal> Survey<'_, R> {

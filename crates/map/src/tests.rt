@@ -1,71 +1,149 @@
-// What is wrong with a drawing, and in which line.
-use crate::mistake::{Mistake, Problem};
+// What the program answers to texts, and what it keeps of them.
+use crate::answer;
 use crate::reader::read;
 use graph::{Layer, only};
 use kinds::Millis;
-use std::alloc::Global;
+use std::alloc::{AllocError, Global};
+use std::cell::RefCell;
+use std::test::Fail;
+use std::{fmt, io};
 
-// The first problem with a text.
-fn problem(heap: Global, text: &str) -> Option<Problem> {
-    read(heap, text).err()
+// Keeps what is printed.
+#[derive(Drop)]
+struct Kept {
+    text: RefCell<String>,
+}
+
+impl Print for Kept {
+    fn print<D: fmt::Display + Drop>(&self, value: D) -> io::Result<()> {
+        let mut text = self.text.try_borrow_mut().map_err(|_| AllocError)?;
+        Ok(write!(text, "{value}")?)
+    }
+
+    fn println<D: fmt::Display + Drop>(&self, value: D) -> io::Result<()> {
+        let mut text = self.text.try_borrow_mut().map_err(|_| AllocError)?;
+        Ok(writeln!(text, "{value}")?)
+    }
+
+    fn write_all(&self, _bytes: &[u8]) -> io::Result<()> {
+        Ok(())
+    }
+}
+
+// What a text is answered.
+fn printed(heap: Global, text: &str) -> anyhow::Result<String> {
+    let kept = RefCell::new(String::new(heap));
+    let rt = (Kept { text: kept }, heap);
+    answer(&rt, text)?;
+    Ok(rt.0.text.into_inner())
 }
 
 #[test]
-fn lines_that_say_nothing(rt: HostRuntime) {
-    let heap = rt.alloc();
-    assert_eq!(rt; problem(heap, "fields 1 1 1"), Some(Mistake::Keyword.at(1)));
-    assert_eq!(rt; problem(heap, "\nfield 1 1"), Some(Mistake::Size.at(2)));
-    assert_eq!(rt; problem(heap, "start 0 0 0"), Some(Mistake::Start.at(1)));
-    assert_eq!(rt;
-        problem(heap, "target 0 65536"),
-        Some(Mistake::Target.at(1))
-    );
-    assert_eq!(rt; problem(heap, "fence #"), Some(Mistake::Fence.at(1)));
-    assert_eq!(rt; problem(heap, "toll 5"), Some(Mistake::Toll.at(1)));
-    assert_eq!(rt; problem(heap, "map 1"), Some(Mistake::Map.at(1)));
+fn lines_that_say_nothing(rt: HostRuntime) -> Result<(), Fail> {
+    for (text, line) in [
+        (
+            "fields 1 1 1",
+            "line 1: expected field, start, target, fence, toll or map\n",
+        ),
+        (
+            "\nfield 1 1",
+            "line 2: expected field COLUMNS ROWS STEP, three numbers: 1 to 256, 1 to 128 and 1 to 1000\n",
+        ),
+        (
+            "start 0 0 0",
+            "line 1: expected start COLUMN ROW, two numbers from 0 to 65535\n",
+        ),
+        (
+            "target 0 65536",
+            "line 1: expected target COLUMN ROW, two numbers from 0 to 65535\n",
+        ),
+        (
+            "fence #",
+            "line 1: expected fence ZONE, one or more zones by their signs\n",
+        ),
+        (
+            "toll 5",
+            "line 1: expected toll MILLIS ZONE, a number from 0 to 4294967295 and one or more zones by their signs\n",
+        ),
+        ("map 1", "line 1: expected map, with nothing after it\n"),
+    ] {
+        assert_eq!(rt; printed(rt.alloc(), text)?.as_str(), line);
+    }
+    Ok(())
 }
 
 #[test]
-fn lines_out_of_order(rt: HostRuntime) {
-    let heap = rt.alloc();
-    assert_eq!(rt;
-        problem(heap, "start 0 0\nstart 0 0"),
-        Some(Mistake::Twice.at(2))
-    );
-    assert_eq!(rt;
-        problem(heap, "field 1 1 1\nstart 0 0\nmap"),
-        Some(Mistake::Early.at(3))
-    );
-    assert_eq!(rt;
-        problem(heap, "field 1 1 1\nstart 0 0\n"),
-        Some(Mistake::NoMap.at(3))
-    );
-    assert_eq!(rt; problem(heap, ""), Some(Mistake::NoMap.at(1)));
+fn lines_out_of_order(rt: HostRuntime) -> Result<(), Fail> {
+    for (text, line) in [
+        (
+            "start 0 0\nstart 0 0",
+            "line 2: expected no second line of this word\n",
+        ),
+        (
+            "field 1 1 1\nstart 0 0\nmap",
+            "line 3: expected the lines field, start and target before the map\n",
+        ),
+        (
+            "field 1 1 1\nstart 0 0\n",
+            "line 3: expected the line map, and the rows of the map after it\n",
+        ),
+        (
+            "",
+            "line 1: expected the line map, and the rows of the map after it\n",
+        ),
+    ] {
+        assert_eq!(rt; printed(rt.alloc(), text)?.as_str(), line);
+    }
+    Ok(())
 }
 
 #[test]
-fn rows_of_the_map(rt: HostRuntime) {
-    let heap = rt.alloc();
-    let sign = Mistake::Sign {
-        column: 1,
-        sign: '!',
-    };
-    let width = Mistake::Width {
-        columns: 2,
-        found: 3,
-    };
-    let short = Mistake::Short { rows: 2, found: 1 };
-    let long = Mistake::Long { rows: 2 };
-    let text = "field 2 2 1\nstart 0 0\ntarget 1 1\nmap\n.!\n..\n";
-    assert_eq!(rt; problem(heap, text), Some(sign.at(5)));
-    let text = "field 2 2 1\nstart 0 0\ntarget 1 1\nmap\n..\n...\n";
-    assert_eq!(rt; problem(heap, text), Some(width.at(6)));
-    let text = "field 2 2 1\nstart 0 0\ntarget 1 1\nmap\n..\n";
-    assert_eq!(rt; problem(heap, text), Some(short.at(6)));
-    let text = "field 2 2 1\nstart 0 0\ntarget 1 1\nmap\n..\n..\n\n..\n";
-    assert_eq!(rt; problem(heap, text), Some(long.at(8)));
-    let text = "field 2 2 1\nstart 0 0\ntarget 1 1\nmap\n.. \n#7\n\n";
-    assert_eq!(rt; problem(heap, text), None);
+fn rows_of_the_map(rt: HostRuntime) -> Result<(), Fail> {
+    for (rows, answer) in [
+        (
+            ".!\n..\n",
+            "line 5: column 1: ! is no cell: expected # . 1 to 9, a to z, A to Z, + or -\n",
+        ),
+        ("..\n...\n", "line 6: expected a row of 2 cells, found 3\n"),
+        ("..\n", "line 6: expected 2 rows, found 1\n"),
+        (
+            "..\n..\n\n..\n",
+            "line 8: expected 2 rows, and nothing after them\n",
+        ),
+        (".. \n#7\n\n", "dijkstra 2\n@*\n#!\nastar 2\n@*\n#!\n"),
+    ] {
+        let text = format!(in rt.alloc(); "field 2 2 1\nstart 0 0\ntarget 1 1\nmap\n{rows}")?;
+        assert_eq!(rt; printed(rt.alloc(), text.as_str())?.as_str(), answer);
+    }
+    Ok(())
+}
+
+#[test]
+fn no_route(rt: HostRuntime) -> Result<(), Fail> {
+    for (text, answer) in [
+        ("field 2 1 1\nstart 0 0\ntarget 1 0\nmap\n.#\n", "none"),
+        (
+            "field 2 1 1\nstart 0 0\ntarget 1 0\nfence 7\nmap\n7.\n",
+            "refused 7: the start is outside, solid or fenced off",
+        ),
+        (
+            "field 2 1 1\nstart 0 0\ntarget 1 0\ntoll 4294967295 7\nmap\n.7\n",
+            "refused 8: a toll does not fit, at the planner's row 0, rank 1, depth 0",
+        ),
+    ] {
+        let lines = format!(in rt.alloc(); "dijkstra {answer}\nastar {answer}\n")?;
+        assert_eq!(rt; printed(rt.alloc(), text)?.as_str(), lines.as_str());
+    }
+    Ok(())
+}
+
+#[test]
+fn no_field(rt: HostRuntime) -> Result<(), Fail> {
+    let line =
+        "field refused 2: expected 1 to 256 columns, 1 to 128 rows, a step of 1 to 1000, and the target inside\n";
+    let text = "field 1 1 0\nstart 0 0\ntarget 0 0\nmap\n.\n";
+    assert_eq!(rt; printed(rt.alloc(), text)?.as_str(), line);
+    Ok(())
 }
 
 #[test]

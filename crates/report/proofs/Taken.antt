@@ -9,7 +9,7 @@ use Rattle.search.specs.Calls.{Held, costs, no_route, gave, finished, denied, an
 use Rattle.search.specs.History.{Begins}
 use Rattle.search.specs.Laws.{Right}
 use Rattle.search.proofs.Searches.{searches_right}
-use Rattle.report.specs.Priced.{Taken}
+use Rattle.report.specs.Priced.{FoundRoute}
 use Rattle.report.proofs.Fits.{fits}
 
 module _ (K : Kind) (m : Method) (M : Meaning) (guess : ℕ → ℕ) (law : Lawful M guess) (start room : ℕ) (s u t : Held) where
@@ -30,10 +30,10 @@ module _ (K : Kind) (m : Method) (M : Meaning) (guess : ℕ → ℕ) (law : Lawf
   right : Right m K M guess s.capacity start
   right = searches_right m K M guess s.capacity start law
 
-  pub taken : (c : ℕ) (ks : List ℕ) → Seek K s m M guess start (costs c) u → HandOut u room (gave ks) t → Taken K m M guess start ks c
+  pub taken : (c : ℕ) (ks : List ℕ) → Seek K s m M guess start (costs c) u → HandOut u room (gave ks) t → FoundRoute K m M guess start ks c
   taken c ks k h = let l = leaves c k in by l.listed l.comes (rw l.left at h.gives)
     where
-      by : (rs : List (List ℕ)) → Answers m K M guess s.capacity start (found c rs) → gave ks ≡ handed rs room → Taken K m M guess start ks c
+      by : (rs : List (List ℕ)) → Answers m K M guess s.capacity start (found c rs) → gave ks ≡ handed rs room → FoundRoute K m M guess start ks c
       by [] e q = cc
       by (r ∷ rs) e q =
           let z : ks ≡ r = grind arith in

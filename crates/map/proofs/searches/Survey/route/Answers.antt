@@ -11,4 +11,4 @@ returns-clause-answers g c =
 pub returns-clause-calls : goal.returns-clause-calls
 returns-clause-calls g c =
     let start : c.plan.inside.start ≡ c.args.self.now.drawing.now.plan.start = ap (λ plan. plan.start) c.plan.view_is in
-    rw (start, c.args.self.now.drawn, c.args.self.now.guided) at c.route.ensures.calls
+    rw (start, c.args.self.now.drawn, c.args.self.now.guesses) at c.route.ensures.calls
