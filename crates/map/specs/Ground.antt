@@ -1,12 +1,14 @@
 -- The graph that a drawing stands for, its field under its fences and tolls; and what a search over it answers.
-use Rattle.std.specs.Prelude.{ℕ, Option, Result}
+use Rattle.std.specs.Prelude.{ℕ, List, Option, Result}
 use Rattle.kinds.specs.Cell.{cell_key}
 use Rattle.kinds.specs.Millis.{millis_kind}
 use Rattle.kinds.specs.declared.cell.Cell.{Cell}
 use Rattle.kinds.specs.declared.millis.Millis.{Millis}
+use Rattle.graph.specs.declared.layers.Layer.{Layer}
 use Rattle.graph.specs.declared.layers.Layers.{Layers}
 use Rattle.graph.specs.Meaning.{Meaning}
 use Rattle.graph.specs.Laid.{laid, laid_guess}
+use Rattle.field.specs.declared.layout.Layout.{Layout}
 use Rattle.field.specs.declared.grid.Field.{Field}
 use Rattle.field.specs.Means.{field_meaning, field_guess}
 use Rattle.search.specs.Calls.{Held}
@@ -23,20 +25,26 @@ key_of cell = cell_key cell.column cell.row
 abbrev pub weight_of : Millis → ℕ
 weight_of cost = cost.millis
 
--- the graph of a drawing, and its guess
+-- the graph of a field under layers, and its guess
+abbrev pub field_under : List (Layer Millis) → Layout → List ℕ → Meaning
+field_under layers layout map = laid millis_kind weight_of layers (field_meaning layout map)
+
+abbrev pub guess_under : List (Layer Millis) → Layout → List ℕ → ℕ → ℕ
+guess_under layers layout map = laid_guess millis_kind weight_of layers (field_meaning layout map) (field_guess layout map)
+
+-- those of a drawing
 abbrev pub ground : Drawing → Meaning
-ground d = laid millis_kind weight_of d.plan.layers (field_meaning d.plan.layout d.map.items)
+ground d = field_under d.plan.layers d.plan.layout d.map.items
 
 abbrev pub ground_guess : Drawing → ℕ → ℕ
-ground_guess d = laid_guess millis_kind weight_of d.plan.layers (field_meaning d.plan.layout d.map.items) (field_guess d.plan.layout d.map.items)
+ground_guess d = guess_under d.plan.layers d.plan.layout d.map.items
 
--- what a field under layers means as a graph, and its guess
+-- and those of a field that lies under layers
 abbrev pub meant : Layers Field Millis → Meaning
-meant pile = laid millis_kind weight_of pile.layers.now (field_meaning pile.bottom.layout pile.bottom.map.now)
+meant pile = field_under pile.layers.now pile.bottom.layout pile.bottom.map.now
 
 abbrev pub guessed : Layers Field Millis → ℕ → ℕ
-guessed pile =
-    laid_guess millis_kind weight_of pile.layers.now (field_meaning pile.bottom.layout pile.bottom.map.now) (field_guess pile.bottom.layout pile.bottom.map.now)
+guessed pile = guess_under pile.layers.now pile.bottom.layout pile.bottom.map.now
 
 -- a search over a drawing answers a cheapest route from its start, with its cost; or none, where none begins there; or a refusal
 abbrev pub Surveyed : Drawing → Result (Option (PricedRoute Cell Millis)) RouteRefusal → Type 0

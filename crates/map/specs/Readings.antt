@@ -1,5 +1,7 @@
--- What a text says, line by line: a plan and the bytes of a map, or the first problem. Below `taken` lines the next has number taken + 1.
+-- What a text says, line by line: a plan and the bytes of a map, or the first problem. Below `taken` lines the next has
+-- number taken + 1.
 use Rattle.std.specs.Prelude.{◌≡◌, ℕ, ◌+◌, ◌==◌, ◌⊎◌, Bool, true, false, List, [], ◌∷◌, length, nat_lt, if◌then◌else◌, None, Option, Some, Result, Ok, Err}
+use Rattle.std.specs.Result.{result_map_both}
 use Rattle.std.specs.Str.{trim_end}
 use Rattle.std.specs.Str.Lines.{lines}
 use Rattle.field.specs.declared.layout.Layout.{Layout}
@@ -51,18 +53,13 @@ abbrev pub and_then : {T U : Type 0} → (T → Result U Problem) → Result T P
 and_then next (Ok x) = next x
 and_then next (Err problem) = Err problem
 
--- a row's mistake is that of its line
-abbrev pub in_line : {T : Type 0} → ℕ → Result T Mistake → Result T Problem
-in_line number (Ok x) = Ok x
-in_line number (Err mistake) = Err (at number mistake)
-
 -- the rows from `found` on: these bytes with theirs behind them, and what is left below the last
 abbrev pub rows_read : Layout → ℕ → List ℕ → ℕ → List (List ℕ) → Result (List ℕ × LinesLeft) Problem
 rows_read layout found bytes taken [] =
     if nat_lt found layout.rows then Err (at (number_after taken) (Short layout.rows found)) else Ok (bytes, record { taken = taken; lines = [] })
 rows_read layout found bytes taken (line ∷ below) =
     if nat_lt found layout.rows
-    then and_then (λ longer. rows_read layout (found + 1) longer (taken + 1) below) (in_line (taken + 1) (row_read bytes layout.columns (trim_end line)))
+    then and_then (λ longer. rows_read layout (found + 1) longer (taken + 1) below) (result_map_both (λ bytes. bytes) (at (taken + 1)) (row_read bytes layout.columns (trim_end line)))
     else Ok (bytes, record { taken = taken; lines = line ∷ below })
 
 -- below the last row each line is blank

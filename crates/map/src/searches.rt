@@ -1,5 +1,7 @@
 // The searches over a drawing, and the lines that say what they came to.
-ghost use Rattle.std.specs.Prelude.{◌≡◌, ◌<◌, length};
+ghost use Rattle.std.specs.Prelude.{◌≡◌, ◌≢◌, ◌<◌, ◌≤◌, length, Err};
+ghost use Rattle.search.specs.declared.refusal.HandOutRefusal.{HandOutRefusal};
+ghost use Rattle.report.specs.declared.priced.RouteRefusal.TheVariants.{HandOut};
 ghost use Rattle.map.specs.Ground.{ground, ground_guess, meant, guessed, Surveyed, SurveyCalls};
 
 use crate::canvas::{Canvas, text_of};
@@ -76,7 +78,8 @@ impl<R: Print + AllocGlobal> Survey<'_, R> {
         Ok(())
     }
 
-    // Seeks a route over the drawing, in the room for it: a cheapest one, at its cost, or none where there is none.
+    // Seeks a route over the drawing, in the room for it: a cheapest one, at its cost, or none where there is none. Room for as
+    // many cells as the planner has rows is enough.
     fn route<'r>(
         &self,
         method: Method,
@@ -85,6 +88,7 @@ impl<R: Print + AllocGlobal> Survey<'_, R> {
     ) -> Result<Option<PricedRoute<'r, Cell, Millis>>, RouteRefusal>
         ensures answers { Surveyed self.now.drawing.now result }
         ensures calls { SurveyCalls self.now.drawing.now method (length room.old) planner.old result planner.new }
+        ensures room { 0 < length room.old → planner.old.capacity.rows ≤ length room.old → (r : HandOutRefusal) → result ≢ Err (HandOut r) }
     {
         let plan = &self.drawing.plan;
         method.route(planner, &self.pile, plan.start, room)
