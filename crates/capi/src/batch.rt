@@ -1,14 +1,17 @@
 // A batch of searches by one planner.
-ghost use Rattle.std.specs.Prelude.{◌≡◌, map, length, take, MatchResult};
-ghost use Rattle.capi.specs.declared.route.Failure.TheVariants.{NoMemory};
+ghost use Rattle.std.specs.Prelude.{◌≡◌, ◌-◌, map, length, MatchResult};
+ghost use Rattle.routes.specs.Stock.{stocked};
+ghost use Rattle.routes.specs.Took.{came_in, Within};
+ghost use Rattle.capi.specs.declared.failure.Failure.TheVariants.{NoMemory};
 ghost use Rattle.capi.specs.Codes.{method_numbered, told_of};
-ghost use Rattle.capi.specs.Tells.{station_key, Tells, TellsBatch};
+ghost use Rattle.capi.specs.Tells.{station_key, trims_weight, OneSeek, LastSeek, Ran, Tells};
 
-use crate::route::{Failure, Route};
+use crate::failure::Failure;
 use chart::Chart;
 use kinds::{Station, Trims};
-use planner::Planner;
-use report::{Desk, Memory, Method};
+use planner::{Planner, Sizes, check};
+use routes::{Desk, Memory, RouteRefusal, Taken};
+use search::Method;
 use std::alloc::Global;
 
 // The search of a number: a caller in C names it so.
@@ -18,6 +21,9 @@ fn numbered(method: u32) -> Option<Method>
     match method {
         0 => Some(Method::Dijkstra),
         1 => Some(Method::Astar),
+        2 => Some(Method::AstarBag),
+        3 => Some(Method::Fringe),
+        4 => Some(Method::Idastar),
         _ => None,
     }
 }
@@ -34,25 +40,17 @@ struct Batch<'a> {
 }
 
 impl<'a> Batch<'a> {
-    // Seeks once, and hands the route out.
+    // Seeks once, and takes the route.
     fn once(
         &self,
         planner: &mut Planner<Station, Trims>,
         nodes: &mut [Station],
-    ) -> Result<Route, Failure>
-        ensures tells { Tells self.now.method self.now.chart.bytes.now planner.old.capacity (length nodes.old) (told_of result) (map station_key (take (told_of result).length nodes.new)) }
-        ensures memory { planner.new.capacity ≡ planner.old.capacity }
+    ) -> Result<Option<Taken<Trims>>, RouteRefusal>
+        ensures seek { OneSeek self.now.method self.now.chart.bytes.now (length nodes.old)
+            planner.old (came_in station_key trims_weight result nodes.new) planner.new }
+        ensures within { Within result (length nodes.old) }
     {
-        let cost = self
-            .method
-            .seek(planner, &self.chart, START)
-            .map_err(Failure::Seek)?
-            .ok_or(Failure::NoRoute)?;
-        let length = planner
-            .hand_out(nodes)
-            .map_err(Failure::HandOut)?
-            .ok_or(Failure::NoRoute)?;
-        Ok(Route { cost, length })
+        Taken::seek(planner, self.method, &self.chart, START, nodes)
     }
 
     // Seeks so many times, at least once, and answers what the last came to.
@@ -60,22 +58,51 @@ impl<'a> Batch<'a> {
         &self,
         planner: &mut Planner<Station, Trims>,
         nodes: &mut [Station],
-    ) -> Result<Route, Failure>
-        ensures { Tells self.now.method self.now.chart.bytes.now planner.old.capacity (length nodes.old) (told_of result) (map station_key (take (told_of result).length nodes.new)) }
+    ) -> Result<Option<Taken<Trims>>, RouteRefusal>
+        ensures seeks { LastSeek self.now.method self.now.chart.bytes.now (length nodes.old)
+            (self.now.times - 1) planner.old (came_in station_key trims_weight result nodes.new) }
+        ensures within { Within result (length nodes.old) }
     {
-        let mut last = self.once(planner, nodes);
-        for _ in 1..self.times {
-            last = self.once(planner, nodes);
+        let before_last = self.times.saturating_sub(1);
+        for _turn in 0..before_last {
+            let _ = self.once(planner, nodes);
         }
-        last
+        self.once(planner, nodes)
+    }
+
+    // Runs all searches; the stations of the last route go out as numbers.
+    fn run(
+        &self,
+        planner: &mut Planner<Station, Trims>,
+        nodes: &mut [Station],
+        out: &mut [u32],
+    ) -> Result<Taken<Trims>, Failure>
+        requires { length nodes.old ≡ length out.old }
+        ensures { Ran self.now.method self.now.chart.bytes.now self.now.times planner.old
+            (told_of result) out.old out.new }
+    {
+        match self.often(planner, nodes) {
+            Err(refusal) => Err(Failure::Route(refusal)),
+            Ok(None) => Err(Failure::NoRoute),
+            Ok(Some(taken)) => {
+                copy_out(&nodes[..taken.length], &mut out[..taken.length]);
+                Ok(taken)
+            }
+        }
     }
 }
 
-// Memory for a planner of so many rows, with room for a route that fills `out`.
-fn memory_for(heap: Global, rows: u32, out: &[u32]) -> Result<Memory<Station, Trims>, Failure>
-    ensures { MatchResult result (λ memory. memory ≡ record { rows = rows; slots = rows; links = 0; nodes = length out.now }) (λ failure. failure ≡ NoMemory) }
+// Memory for a planner of so many rows and links, with room for a route that fills `out`.
+fn memory_for(
+    heap: Global,
+    rows: usize,
+    links: usize,
+    out: &[u32],
+) -> Result<Memory<Station, Trims>, Failure>
+    ensures { MatchResult result
+        (λ memory. memory ≡ stocked rows links (length out.now)) (λ failure. failure ≡ NoMemory) }
 {
-    Memory::with_room(heap, START, rows as usize, 0, out.len()).map_err(|_| Failure::NoMemory)
+    Memory::with_room(heap, START, rows, links, out.len()).map_err(|_| Failure::NoMemory)
 }
 
 // Copies the numbers of the stations.
@@ -96,24 +123,25 @@ pub(crate) fn search(
     method: u32,
     bytes: &[u8],
     rows: u32,
+    links: u32,
     times: u32,
     out: &mut [u32],
-) -> Result<Route, Failure>
-    ensures { TellsBatch method bytes.now rows (length out.old) (told_of result) (take (told_of result).length out.new) }
+) -> Result<Taken<Trims>, Failure>
+    ensures { Tells method bytes.now rows links times (told_of result) out.old out.new }
 {
     let method = numbered(method).ok_or(Failure::NoMethod)?;
     let chart = Chart::try_from(bytes).map_err(Failure::Chart)?;
+    let (rows, links) = (rows as usize, links as usize);
+    check(Sizes::of(rows, links)).map_err(Failure::Planner)?;
     let batch = Batch {
         method,
         chart,
         times,
     };
-    let mut memory = memory_for(heap, rows, out)?;
+    let mut memory = memory_for(heap, rows, links, out)?;
     let Desk {
         mut planner,
         out: nodes,
     } = memory.desk().map_err(Failure::Planner)?;
-    let last = batch.often(&mut planner, nodes);
-    copy_out(nodes, out);
-    last
+    batch.run(&mut planner, nodes, out)
 }

@@ -2,25 +2,37 @@
 ghost use Rattle.std.specs.Prelude.{◌≡◌};
 ghost use Rattle.capi.specs.Codes.{bare_code};
 
-use crate::route::{Failure, Route};
+use crate::failure::Failure;
+use kinds::Trims;
+use routes::Taken;
 
-// The code of a search that found no route.
+/// The code of a search that found no route.
 pub const NO_ROUTE: u32 = 100;
 
-// The code where no search has the number.
+/// The code where no search has the number.
 pub const NO_METHOD: u32 = 101;
 
-// The code where the heap has no memory left.
+/// The code where the heap has no memory left.
 pub const NO_MEMORY: u32 = 102;
 
-// A code, and the cost and the number of stations of a route. The code is 0 where there is a route, the number of a
-// refusal, or one of those above: a number, since a caller in C reads it.
+/// A code, and the cost and the length of a route: numbers, since a caller in C reads them. In C it is
+/// `struct { uint32_t code, trims, millis; size_t length; }`.
+///
+/// # Examples
+///
+/// A route of three stations that takes 2 milliseconds and cuts no thread is
+/// `Told { code: 0, trims: 0, millis: 2, length: 3 }`; that there is no route is
+/// `Told { code: NO_ROUTE, trims: 0, millis: 0, length: 0 }`.
 #[repr(C)]
-#[derive(Clone, Copy)]
+#[derive(Clone, Copy, PartialEq, Eq, Debug)]
 pub struct Told {
+    /// 0 where there is a route; or the number of a refusal, which is below 100; or `NO_ROUTE`, `NO_METHOD` or `NO_MEMORY`.
     pub code: u32,
+    /// How often the route cuts the thread; 0 where there is no route.
     pub trims: u32,
+    /// How long the route takes besides, in milliseconds; 0 where there is no route.
     pub millis: u32,
+    /// How many stations the route has; 0 where there is no route.
     pub length: usize,
 }
 
@@ -39,18 +51,18 @@ impl Told {
 }
 
 // What is told of a search: its route, or a code.
-impl From<Result<Route, Failure>> for Told {
+impl From<Result<Taken<Trims>, Failure>> for Told {
     ghost use Rattle.capi.specs.Codes.{told_of};
 
     ghost from_gives = { λ answer told. told ≡ told_of answer };
 
-    fn from(answer: Result<Route, Failure>) -> Told {
+    fn from(answer: Result<Taken<Trims>, Failure>) -> Told {
         match answer {
-            Ok(route) => Told {
+            Ok(Taken { cost, length }) => Told {
                 code: 0,
-                trims: route.cost.trims,
-                millis: route.cost.millis,
-                length: route.length,
+                trims: cost.trims,
+                millis: cost.millis,
+                length,
             },
             Err(failure) => Told::bare(u32::from(failure)),
         }

@@ -5,6 +5,5 @@ pub mod Rules
 pub mod Checked
 pub mod Verdict
 pub mod Sound
-pub mod Kept
 pub mod Meaning
 pub mod Lawful

@@ -7,9 +7,13 @@ use crate::refusal::ChartRefusal;
 use crate::words::{road_count, road_record, station_count, station_record, word};
 use std::ops::Range;
 
-// A chart: bytes that the check passes, borrowed and never copied. It is made in two calls, for a caller who has checked before and
-// whose making then cannot fail, or in one. A ghost field says that the check passes, since a `Copy` type with a lifetime can have
-// no `impl Model`.
+/// A chart: bytes that the check passes, borrowed and never copied. `Chart::try_from` checks and makes it; a caller that has
+/// checked the bytes before calls `Chart::make`, which cannot fail.
+///
+/// ```
+/// let chart = Chart::try_from(bytes)?;
+/// let zone = chart.zone(&Station { id: 0 });
+/// ```
 #[derive(Clone, Copy)]
 pub struct Chart<'a> {
     pub(crate) bytes: &'a [u8],
@@ -22,7 +26,7 @@ impl<'a> Chart<'a> {
     ghost use Rattle.chart.specs.Format.{station_count, road_count, first_road};
     ghost use Rattle.chart.specs.Meaning.{held_in, roads_end};
 
-    // The chart that stands in these bytes, which the check has passed.
+    /// The chart that stands in these bytes, which the check has passed.
     pub fn make(bytes: &'a [u8]) -> Chart<'a>
         requires { checked bytes.now ≡ Ok tt }
         ensures { result.bytes.now ≡ bytes.now }
@@ -33,7 +37,8 @@ impl<'a> Chart<'a> {
     // Where the record of a station begins, if there is such a station.
     #[tactic(auto, using(crate::specs::Lawful::sizes))]
     pub(crate) fn station_at(&self, station: u32) -> Option<usize>
-        ensures is { result ≡ cond (held_in self.now.bytes.now station) (Some (16 + 16 * station)) None }
+        ensures is { result
+            ≡ cond (held_in self.now.bytes.now station) (Some (16 + 16 * station)) None }
         ensures within { IfSome result (λ at. at + 16 ≤ length self.now.bytes.now) }
     {
         (station < station_count(self.bytes)).then_some(station_record(station))
@@ -52,8 +57,10 @@ impl<'a> Chart<'a> {
     // The roads of a station in the road table; none where there is no such station.
     #[tactic(auto, using(crate::specs::Lawful::sizes, crate::specs::Lawful::ends_within))]
     pub(crate) fn roads(&self, station: u32) -> Range<u32>
-        ensures start { result.start ≡ cond (held_in self.now.bytes.now station) (first_road self.now.bytes.now station) 0 }
-        ensures end { result.end ≡ cond (held_in self.now.bytes.now station) (roads_end self.now.bytes.now station) 0 }
+        ensures start { result.start
+            ≡ cond (held_in self.now.bytes.now station) (first_road self.now.bytes.now station) 0 }
+        ensures end { result.end
+            ≡ cond (held_in self.now.bytes.now station) (roads_end self.now.bytes.now station) 0 }
         ensures order { result.start ≤ result.end }
         ensures within { result.end ≤ road_count self.now.bytes.now }
     {
@@ -73,9 +80,11 @@ impl<'a> TryFrom<&'a [u8]> for Chart<'a> {
 
     type Error = ChartRefusal;
 
-    ghost try_from_gives = { λ bytes r. MatchResult r (λ chart. (checked bytes.now ≡ Ok tt) × (chart.bytes.now ≡ bytes.now)) (λ refusal. checked bytes.now ≡ Err refusal) };
+    ghost try_from_gives = { λ bytes r. MatchResult r
+        (λ chart. (checked bytes.now ≡ Ok tt) × (chart.bytes.now ≡ bytes.now))
+        (λ refusal. checked bytes.now ≡ Err refusal) };
 
-    // The chart that stands in these bytes, if the check passes them.
+    /// The chart that stands in these bytes, if the check passes them; or why it does not.
     fn try_from(bytes: &'a [u8]) -> Result<Chart<'a>, ChartRefusal> {
         check(bytes)?;
         Ok(Chart::make(bytes))

@@ -83,8 +83,9 @@ fn bad_road(bytes: &[u8]) -> Option<u32>
     (0..road_count(bytes)).find(|&road| !road_keeps(bytes, road))
 }
 
-// Checks that the bytes are a chart: the header and the length first, then each station, then each road.
-#[tactic(auto, using(crate::specs::Kept::says), unfolding(crate::specs::Checked::checked))]
+/// Checks that the bytes are a chart: the header and the length first, then each station, then each road. It refuses with
+/// the first that breaks its rule.
+#[tactic(auto, using(crate::proofs::Says::says), unfolding(crate::specs::Checked::checked))]
 pub fn check(bytes: &[u8]) -> Result<(), ChartRefusal>
     ensures is { result ≡ checked bytes.now }
     ensures says { Says bytes.now result }

@@ -1,6 +1,6 @@
 // What a chart answers as a graph.
-ghost use Rattle.chart.specs.Meaning.{guess_in};
-ghost use Rattle.chart.specs.Lawful.{meaning_in, chart_lawful};
+ghost use Rattle.chart.specs.Meaning.{held_in, zone_in, count_in, road_in, guess_in, goal_in};
+ghost use Rattle.chart.specs.Lawful.{chart_lawful};
 
 use crate::borrowed::Chart;
 use crate::words::{GOAL, cost, last_word, word};
@@ -12,9 +12,17 @@ impl<'a> Graph for Chart<'a> {
 
     type Cost = Trims;
 
-    ghost means = { λ c. meaning_in c.bytes.now };
+    ghost holds = { λ c. held_in c.bytes.now };
+
+    ghost zones = { λ c. zone_in c.bytes.now };
+
+    ghost counts = { λ c. count_in c.bytes.now };
+
+    ghost roads = { λ c. road_in c.bytes.now };
 
     ghost guesses = { λ c. guess_in c.bytes.now };
+
+    ghost goals = { λ c. goal_in c.bytes.now };
 
     ghost lawful = { λ c. chart_lawful c.bytes.now c.ok };
 
@@ -36,8 +44,7 @@ impl<'a> Graph for Chart<'a> {
     fn road(&self, node: &Station, rank: u16) -> Result<Option<(Station, Trims)>, Fault> {
         let roads = self.roads(node.id);
         let road = roads.start + rank as u32;
-        // With `nth` the proof does not close.
-        if !roads.contains(&road) {
+        if road >= roads.end {
             return Ok(None);
         }
         let at = self.road_at(road);

@@ -91,3 +91,13 @@ fn answers(rt: HostRuntime) -> Result<(), Fail> {
     assert_eq!(rt; chart.road(&Station { id: 0 }, 0), Ok(Some((last, cost))));
     Ok(())
 }
+
+#[test]
+fn refusals_in_words(rt: HostRuntime) -> Result<(), Fail> {
+    let road = ChartRefusal::Road { road: 3 };
+    assert_eq!(rt;
+        format!(in rt.alloc(); "{road}")?.as_str(),
+        "road 3 leads to no station"
+    );
+    Ok(())
+}

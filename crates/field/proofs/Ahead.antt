@@ -3,10 +3,10 @@ use Rattle.std.proofs.Common.{◌≡◌, ℕ, ◌+◌, ◌<◌, ◌≤◌, List,
 use Rattle.std.specs.Int.{abs_diff}
 use Rattle.std.proofs.lemmas.Grind.{common_steps}
 use Rattle.std.proofs.lemmas.Nat.{mul-le}
-use Rattle.graph.specs.Routes.{Weighs, ends, goes, True}
+use Rattle.graph.specs.Routes.{Weighs, ends, goes, IsTrueGuess}
 use Rattle.field.specs.declared.layout.Layout.{Layout}
 use Rattle.field.specs.Cells.{guess_at}
-use Rattle.field.specs.Means.{column_of, row_of, field_meaning, field_guess}
+use Rattle.field.specs.Means.{column_of, row_of, field_meaning, field_guess, HasTrueGuess}
 use Rattle.field.specs.Checking.{verdict}
 use Rattle.field.specs.Laws.{Neighbour, neighbour, held_column, column_of_key, row_of_key, few_columns}
 use Rattle.field.proofs.Passed.{passed}
@@ -32,9 +32,9 @@ module _ (l : Layout) (map : List ℕ) (few : l.columns ≤ 256) where
   least (goes {k} {to} {w} {v} h s r) =
       nearer (column_of k) (row_of k) to w v (neighbour l map (column_of k) (row_of k) s.rank to w (grind (arith, common_steps))) (least r)
 
-  pub guess_true : True (field_meaning l map) (field_guess l map)
+  pub guess_true : IsTrueGuess (field_meaning l map) (field_guess l map)
   guess_true k ks w h r = rw h (least r)
 
 -- the same for what the check passed
-pub passed_true : (l : Layout) (map : List ℕ) → verdict l map ≡ Ok tt → True (field_meaning l map) (field_guess l map)
+pub passed_true : (l : Layout) (map : List ℕ) → verdict l map ≡ Ok tt → HasTrueGuess l map
 passed_true l map e = guess_true l map (few_columns l (passed l map e).range)

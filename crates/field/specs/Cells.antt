@@ -17,6 +17,10 @@ inside l column row = nat_lt column l.columns && nat_lt row l.rows
 abbrev pub held_at : Layout → List ℕ → (column row : ℕ) → Bool
 held_at l map column row = inside l column row && not (byte_at l map column row == 255)
 
+-- the zone of a cell that is held
+abbrev pub zone_in : Layout → List ℕ → (column row : ℕ) → Option ℕ
+zone_in l map column row = cond (held_at l map column row) (Some (byte_at l map column row)) None
+
 -- a road to a cell: open at one step if that cell is held
 abbrev pub step_to : Layout → List ℕ → (column row : ℕ) → Road
 step_to l map column row = cond (held_at l map column row) (opened (cell_key column row) l.step) closed
@@ -37,6 +41,11 @@ to_cell l map (Some cell) = step_to l map cell.0 cell.1
 -- the roads of a held cell, to the cells beside it
 abbrev pub road_at : Layout → List ℕ → (column row rank : ℕ) → Road
 road_at l map column row rank = to_cell l map (beside column row rank)
+
+-- the roads of any cell: closed where it is not held
+abbrev pub step_in : Layout → List ℕ → (column row rank : ℕ) → Road
+step_in l map column row rank =
+    cond (held_at l map column row) (road_at l map column row rank) closed
 
 -- whether a cell is the target
 abbrev pub target_at : Layout → (column row : ℕ) → Bool

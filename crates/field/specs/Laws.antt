@@ -5,7 +5,7 @@ use Rattle.std.proofs.Common.{arith}
 use Rattle.std.proofs.lemmas.Grind.{common_steps}
 use Rattle.std.proofs.lemmas.Nat.{div-mul-add, mod-mul-add}
 use Rattle.kinds.specs.Cell.{cell_key}
-use Rattle.graph.specs.Meaning.{opened, closed, Lawful}
+use Rattle.graph.specs.Meaning.{opened, closed, IsLawful}
 use Rattle.field.specs.declared.layout.Layout.{Layout}
 use Rattle.field.specs.Checking.{in_range, is_cell}
 use Rattle.field.specs.Cells.{held_at, beside, to_cell, road_at}
@@ -52,7 +52,7 @@ pub held_column : (l : Layout) (map : List ℕ) (column row : ℕ) → held_at l
 held_column l map column row h = grind (arith, common_steps)
 
 module _ (l : Layout) (map : List ℕ) (few : l.columns ≤ 256) (cells : (i : ℕ) → is_cell (slice_index map i) ≡ true) where
-  pub field_lawful : Lawful (field_meaning l map) (field_guess l map)
+  pub field_lawful : IsLawful (field_meaning l map) (field_guess l map)
   field_lawful =
       record {
         zones = λ k. let c = cells (row_of k * l.columns + column_of k) in grind (arith, common_steps);

@@ -6,7 +6,7 @@ use crate::layout::Layout;
 use crate::refusal::FieldRefusal;
 use graph::is_zone;
 
-// The byte of a solid cell.
+/// The byte of a solid cell.
 pub const SOLID: u8 = 255;
 
 // Whether the byte is a zone or solid.
@@ -23,7 +23,8 @@ fn first_wrong(map: &[u8]) -> Option<usize>
     map.iter().position(|&byte| !is_cell(byte))
 }
 
-// Whether a field can be made of this layout and this map, which has one byte a cell, row by row.
+/// Whether a field can be made of this layout and this map, which has one byte a cell, row by row. It refuses with the first
+/// thing that is wrong: the layout, then the length of the map, then its bytes.
 pub fn check(layout: Layout, map: &[u8]) -> Result<(), FieldRefusal>
     ensures { result ≡ verdict layout map.now }
 {

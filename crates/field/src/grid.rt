@@ -1,26 +1,27 @@
 // A field as a graph: its nodes are cells and its costs milliseconds.
-ghost use Rattle.std.specs.Prelude.{◌≡◌, ℕ, ◌*◌, true, cond, length, Some, None, Ok, Err, slice_index, option_map, IfOk, MatchResult};
+ghost use Rattle.std.specs.Prelude.{◌≡◌, ℕ, ◌*◌, true, length, Ok, slice_index, option_map};
 ghost use Rattle.graph.specs.Answers.{road_of};
-ghost use Rattle.graph.specs.Meaning.{closed};
-ghost use Rattle.graph.specs.Routes.{True};
 ghost use Rattle.kinds.specs.Cell.{cell_key};
 ghost use Rattle.field.specs.Checking.{in_range, is_cell, verdict};
-ghost use Rattle.field.specs.Cells.{byte_at, inside, held_at, beside, road_at, guess_at};
-ghost use Rattle.field.specs.Means.{field_meaning, field_guess};
+ghost use Rattle.field.specs.Cells.{inside, zone_in, beside, step_in, guess_at};
+ghost use Rattle.field.specs.Means.{field_held, field_zone, field_count, field_road, field_goal, field_guess, HasTrueGuess};
 ghost use Rattle.field.specs.Laws.{field_lawful, few_columns};
 
-use crate::checking::{SOLID, check};
+use crate::checking::SOLID;
 use crate::layout::Layout;
-use crate::refusal::FieldRefusal;
 use graph::{Fault, Graph};
 use kinds::{Cell, CostKind, Millis};
 
 // How many cells are beside a cell, each by a rank.
 const SIDES: u16 = 4;
 
-// A layout with a map that has one byte a cell, row by row: a zone (0 to 63) or solid (255). It is made in two calls, for a caller
-// who has checked before and whose making then cannot fail, or in one. Ghost fields say what the check passes, since a `Copy` type
-// with a lifetime can have no `impl Model`.
+/// A layout with a map that has one byte a cell, row by row: a zone (0 to 63) or solid (255). `check` says whether they make
+/// a field, and `Field::make` makes it.
+///
+/// ```
+/// field::check(layout, map)?;
+/// let field = Field::make(layout, map);
+/// ```
 #[derive(Clone, Copy)]
 pub struct Field<'a> {
     layout: Layout,
@@ -31,29 +32,20 @@ pub struct Field<'a> {
 }
 
 impl<'a> Field<'a> {
-    // The field of a layout and a map that the check passed. Its guess is true.
+    /// The field of a layout and a map that the check passed. Its guess is true.
     #[tactic(auto, using(crate::proofs::Passed::passed, crate::proofs::Ahead::passed_true))]
     pub fn make(layout: Layout, map: &'a [u8]) -> Field<'a>
         requires { verdict layout map.now ≡ Ok tt }
         ensures plan { result.layout ≡ layout }
         ensures bytes { result.map.now ≡ map.now }
-        ensures truth { True (field_meaning result.layout result.map.now) (field_guess result.layout result.map.now) }
+        ensures truth { HasTrueGuess result.layout result.map.now }
     {
         Field { layout, map }
     }
 
-    // The same, where the check passes them; or why it does not.
-    pub fn new(layout: Layout, map: &'a [u8]) -> Result<Field<'a>, FieldRefusal>
-        ensures made { MatchResult result (λ field. (verdict layout map.now ≡ Ok tt) × (field.layout ≡ layout) × (field.map.now ≡ map.now)) (λ refusal. verdict layout map.now ≡ Err refusal) }
-        ensures truth { IfOk result (λ field. True (field_meaning field.layout field.map.now) (field_guess field.layout field.map.now)) }
-    {
-        check(layout, map)?;
-        Ok(Field::make(layout, map))
-    }
-
     // The zone of a cell that is held: of one inside that is not solid.
     fn zone_at(&self, cell: Cell) -> Option<u8>
-        ensures { result ≡ cond (held_at self.now.layout self.now.map.now cell.column cell.row) (Some (byte_at self.now.layout self.now.map.now cell.column cell.row)) None }
+        ensures { result ≡ zone_in self.now.layout self.now.map.now cell.column cell.row }
     {
         if !self.layout.contains(cell) {
             return None;
@@ -80,7 +72,8 @@ impl<'a> Field<'a> {
 
     // The road of a rank from a cell: open at one step if the cell and the one beside it are held.
     fn step(&self, cell: Cell, rank: u16) -> Option<(Cell, Millis)>
-        ensures { road_of (λ c. cell_key c.column c.row) (λ c. c.millis) (Ok result) ≡ cond (held_at self.now.layout self.now.map.now cell.column cell.row) (road_at self.now.layout self.now.map.now cell.column cell.row rank) closed }
+        ensures { road_of (λ c. cell_key c.column c.row) (λ c. c.millis) (Ok result)
+            ≡ step_in self.now.layout self.now.map.now cell.column cell.row rank }
     {
         self.zone_at(cell)?;
         let to = self.beside(cell, rank)?;
@@ -109,9 +102,17 @@ impl<'a> Graph for Field<'a> {
 
     type Cost = Millis;
 
-    ghost means = { λ f. field_meaning f.layout f.map.now };
+    ghost holds = { λ f. field_held f.layout f.map.now };
+
+    ghost zones = { λ f. field_zone f.layout f.map.now };
+
+    ghost counts = { λ f. field_count f.layout f.map.now };
+
+    ghost roads = { λ f. field_road f.layout f.map.now };
 
     ghost guesses = { λ f. field_guess f.layout f.map.now };
+
+    ghost goals = { λ f. field_goal f.layout f.map.now };
 
     ghost lawful = { λ f. field_lawful f.layout f.map.now (few_columns f.layout f.range) f.cells };
 

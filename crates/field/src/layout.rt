@@ -3,12 +3,12 @@ ghost use Rattle.std.specs.Prelude.{◌≡◌};
 
 use kinds::Cell;
 
-// The size of a field, what a step on it costs, and where it ends.
+/// The size of a field, what a step on it costs, and where its routes end.
 #[derive(Clone, Copy, PartialEq, Eq, Debug)]
 pub struct Layout {
     pub columns: u16,
     pub rows: u16,
-    // What one step costs, in milliseconds.
+    /// What one step costs, in milliseconds.
     pub step: u32,
     pub target: Cell,
 }

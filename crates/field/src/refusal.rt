@@ -4,18 +4,18 @@ ghost use Rattle.std.specs.Prelude.{◌≡◌, Some};
 use std::error::Error;
 use std::fmt;
 
-// Why a field cannot be made.
+/// Why a field cannot be made.
 #[derive(Clone, Copy, PartialEq, Eq, Debug)]
 pub enum FieldRefusal {
-    // The columns are not 1 to 256, or the rows not 1 to 128, or the step not 1 to 1,000, or the target is outside.
+    /// The columns are not 1 to 256, or the rows not 1 to 128, or the step not 1 to 1,000, or the target is outside.
     Size,
-    // The map does not have one byte for each cell.
+    /// The map does not have one byte for each cell.
     Length,
-    // The byte at this position, and at none before, is neither a zone (0 to 63) nor solid (255).
+    /// The byte at this position, and at none before, is neither a zone (0 to 63) nor solid (255).
     Byte { position: usize },
 }
 
-// The number by which users know it.
+/// The number by which users know it: 2 for the layout, 3 for the length of the map, 4 for a byte.
 impl From<FieldRefusal> for u8 {
     ghost use Rattle.field.specs.Checking.{refusal_number};
 

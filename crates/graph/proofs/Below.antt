@@ -3,11 +3,11 @@ use Rattle.std.proofs.Common.{◌≡◌, ℕ, zero, suc, ◌+◌, ◌<◌, ◌�
 use Rattle.std.proofs.lemmas.Bool.{cases_lt}
 use Rattle.kinds.specs.Kind.{Kind}
 use Rattle.graph.specs.Meaning.{opened, Meaning}
-use Rattle.graph.specs.Routes.{Step, Weighs, ends, goes, True}
+use Rattle.graph.specs.Routes.{Step, Weighs, ends, goes, IsTrueGuess}
 use Rattle.graph.specs.Zones.{in_table}
 use Rattle.graph.specs.Fenced.{fenced, fenced_guess}
 use Rattle.graph.specs.Tolled.{tolled}
-use Rattle.graph.specs.Layers.{fenced_opened, tolled_opened}
+use Rattle.graph.specs.Lawful.{fenced_opened, tolled_opened}
 
 -- where there is an open road, it cannot be that none of at most its weight is lightest
 lightest : (M : Meaning) (a b : ℕ) (fuel rank v : ℕ) → v < fuel → M.road a rank ≡ opened b v → ((u : ℕ) → u ≤ v → Step M a b u → ⊥) → ⊥
@@ -23,7 +23,7 @@ tolled_weighs K charged toll M (goes {k} {to} {w} {v} h s r) never =
     lightest M k to (suc o.0) s.rank o.0 (omega arith) o.2
     (λ u le s'. tolled_weighs K charged toll M r (λ u' le' r'. never (u + u') (omega (arith, o.1)) (goes h s' r')))
 
-pub tolled_true : (K : Kind) (charged : List Bool) (toll : ℕ) (M : Meaning) (guess : ℕ → ℕ) → True M guess → True (tolled K charged toll M) guess
+pub tolled_true : (K : Kind) (charged : List Bool) (toll : ℕ) (M : Meaning) (guess : ℕ → ℕ) → IsTrueGuess M guess → IsTrueGuess (tolled K charged toll M) guess
 tolled_true K charged toll M guess t k ks w h r =
     elim (cases_lt w (guess k)) [ inl less ↦ absurd (tolled_weighs K charged toll M r (λ u le r'. omega (arith, t k ks u h r'))) | inr le ↦ le ]
 
@@ -42,6 +42,6 @@ fenced_weighs barred M (ends {k} h g) = ends (fenced_yes (in_table barred M k) h
 fenced_weighs barred M (goes {k} {to} {w} h s r) =
     goes (fenced_yes (in_table barred M k) h).0 (fenced_step barred M k to w s) (fenced_weighs barred M r)
 
-pub fenced_true : (barred : List Bool) (M : Meaning) (guess : ℕ → ℕ) → True M guess → True (fenced barred M) (fenced_guess barred M guess)
+pub fenced_true : (barred : List Bool) (M : Meaning) (guess : ℕ → ℕ) → IsTrueGuess M guess → IsTrueGuess (fenced barred M) (fenced_guess barred M guess)
 fenced_true barred M guess t k ks w h r =
     let le = t k ks w (fenced_yes (in_table barred M k) h).0 (fenced_weighs barred M r) in grind arith

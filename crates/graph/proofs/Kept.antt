@@ -1,5 +1,5 @@
 -- Every pile keeps the laws of graphs and the truth of its bottom graph's guess.
-use Rattle.graph.specs.Layers.{fenced_lawful, tolled_lawful}
+use Rattle.graph.specs.Lawful.{fenced_lawful, tolled_lawful}
 use Rattle.graph.specs.Pile.{bare, under_fence, under_toll, PilesKeepTruth, PilesNest}
 use Rattle.graph.proofs.Below.{fenced_true, tolled_true}
 

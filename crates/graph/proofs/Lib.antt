@@ -1,4 +1,4 @@
 pub mod Below
 pub mod Kept
-pub mod Laid
+pub mod LayersPile
 pub mod Routes

@@ -7,7 +7,7 @@ use Rattle.graph.specs.Routes.{Step, Weighs, ends, goes}
 use Rattle.graph.specs.Zones.{in_table}
 use Rattle.graph.specs.Fenced.{fenced}
 use Rattle.graph.specs.Tolled.{tolled}
-use Rattle.graph.specs.Layers.{fenced_opened, tolled_opened}
+use Rattle.graph.specs.Lawful.{fenced_opened, tolled_opened}
 use Rattle.graph.specs.Past.{Unbarred, FencesPartRoutes, TollsAddWeight}
 use Rattle.graph.proofs.Below.{fenced_yes, fenced_weighs}
 

@@ -1,26 +1,40 @@
--- Fences and tolls keep the laws of graphs.
-use Rattle.std.specs.Prelude.{◌≡◌, ℕ, ◌≤◌, Bool, false, cond, List}
-use Rattle.std.proofs.Common.{arith}
+-- Layers laid over a graph one after another, the lowest first.
+use Rattle.std.specs.Prelude.{ℕ, Bool, false, List, [], ◌∷◌}
 use Rattle.kinds.specs.Kind.{Kind}
-use Rattle.graph.specs.Meaning.{Road, opened, closed, faulty, Meaning, Lawful}
+use Rattle.graph.specs.Meaning.{Road, Meaning}
 use Rattle.graph.specs.Zones.{in_table}
 use Rattle.graph.specs.Fenced.{fenced_road, fenced, fenced_guess}
 use Rattle.graph.specs.Tolled.{tolled_road, tolled}
+use Rattle.graph.specs.declared.layers.Layer.{Layer}
+use Rattle.graph.specs.declared.layers.Layer.TheVariants.{Fence, Toll}
 
--- an open road past a fence is the same road below, between two keys that are not barred
-pub fenced_opened : (barred : List Bool) (M : Meaning) (k : ℕ) (rd : Road) (to w : ℕ) → cond (in_table barred M k) closed (fenced_road barred M rd) ≡ opened to w → (rd ≡ opened to w) × (in_table barred M k ≡ false) × (in_table barred M to ≡ false)
-fenced_opened barred M k rd to w e = grind arith
+-- whether a layer over the graph is a fence that bars a key
+abbrev pub bars : {C : Type 0} → Meaning → ℕ → Layer C → Bool
+bars M k (Fence barred) = in_table barred M k
+bars M k (Toll cost charged) = false
 
-module _ (barred : List Bool) (M : Meaning) (guess : ℕ → ℕ) (l : Lawful M guess) where
-  pub fenced_lawful : Lawful (fenced barred M) (fenced_guess barred M guess)
-  fenced_lawful = grind arith
+module _ {C : Type 0} (K : Kind) (weight : C → ℕ) where
+  -- a road of the graph, past a layer
+  abbrev pub past_road : Meaning → ℕ → Road → Layer C → Road
+  past_road M rank rd (Fence barred) = fenced_road barred M rd
+  past_road M rank rd (Toll cost charged) = tolled_road K charged (weight cost) M rank rd
 
--- an open road past a toll is an open road of at most its weight below
-pub tolled_opened : (K : Kind) (charged : List Bool) (toll : ℕ) (M : Meaning) (rank : ℕ) (rd : Road) (to w : ℕ) → tolled_road K charged toll M rank rd ≡ opened to w → (v : ℕ) × (v ≤ w) × (rd ≡ opened to v)
-tolled_opened K charged toll M rank (opened to' w') to w e = (w', grind arith, grind arith)
-tolled_opened K charged toll M rank closed to w e = cc
-tolled_opened K charged toll M rank (faulty f) to w e = cc
+  -- the graph past a layer
+  abbrev pub past : Layer C → Meaning → Meaning
+  past (Fence barred) M = fenced barred M
+  past (Toll cost charged) M = tolled K charged (weight cost) M
 
-module _ (K : Kind) (charged : List Bool) (toll : ℕ) (M : Meaning) (guess : ℕ → ℕ) (l : Lawful M guess) where
-  pub tolled_lawful : Lawful (tolled K charged toll M) guess
-  tolled_lawful = grind (arith, tolled_opened)
+  -- its guess
+  abbrev pub past_guess : Layer C → Meaning → (ℕ → ℕ) → ℕ → ℕ
+  past_guess (Fence barred) M guess = fenced_guess barred M guess
+  past_guess (Toll cost charged) M guess = guess
+
+  -- the graph past all layers
+  abbrev pub laid : List (Layer C) → Meaning → Meaning
+  laid [] M = M
+  laid (layer ∷ above) M = laid above (past layer M)
+
+  -- its guess
+  abbrev pub laid_guess : List (Layer C) → Meaning → (ℕ → ℕ) → ℕ → ℕ
+  laid_guess [] M guess = guess
+  laid_guess (layer ∷ above) M guess = laid_guess above (past layer M) (past_guess layer M guess)

@@ -1,12 +1,12 @@
 pub mod Meaning
+pub mod Means
 pub mod Answers
 pub mod Routes
-pub mod Unguided
 pub mod Deeper
 pub mod Zones
 pub mod Fenced
 pub mod Tolled
 pub mod Layers
-pub mod Laid
+pub mod Lawful
 pub mod Pile
 pub mod Past

@@ -16,9 +16,15 @@ pub record Meaning : Type 0 where
   pub road : (key rank : ℕ) → Road
   pub goal : ℕ → Bool
 
+-- the meaning of a graph that says this of its keys
+abbrev pub meaning :
+    (holds : ℕ → Bool) (zones counts : ℕ → ℕ) (roads : ℕ → ℕ → Road) (goals : ℕ → Bool) → Meaning
+meaning holds zones counts roads goals =
+    record { held = holds; zone = zones; count = counts; road = roads; goal = goals }
+
 -- the laws of graphs: zones and counts are within their limits, an open road leads to a held key, a rank not below the
 -- count is closed, and a key that is not held has zone 0, no road, guess zero, and is no goal
-pub record Lawful (M : Meaning) (guess : ℕ → ℕ) : Type 0 where
+pub record IsLawful (M : Meaning) (guess : ℕ → ℕ) : Type 0 where
   pub zones : (k : ℕ) → M.zone k < 64
   pub counts : (k : ℕ) → M.count k ≤ 65535
   pub leads : (k rank to w : ℕ) → M.road k rank ≡ opened to w → M.held to ≡ true

@@ -12,7 +12,9 @@ pub record Step (M : Meaning) (a b w : ℕ) : Type 0 where
 -- road, the last a goal; each step weighs what the lightest open road between its two keys does
 pub data Weighs (M : Meaning) : ℕ → List ℕ → ℕ → Type 0 where
   ends : {k : ℕ} → M.held k ≡ true → M.goal k ≡ true → Weighs M k (k ∷ []) 0
-  goes : {k to w v : ℕ} {ks : List ℕ} → M.held k ≡ true → Step M k to w → Weighs M to ks v → Weighs M k (k ∷ ks) (w + v)
+  goes :
+      {k to w v : ℕ} {ks : List ℕ} → M.held k ≡ true → Step M k to w → Weighs M to ks v →
+      Weighs M k (k ∷ ks) (w + v)
 
 -- a route from a key
 abbrev pub Route : Meaning → ℕ → List ℕ → Type 0
@@ -25,5 +27,6 @@ pub record Lightest (M : Meaning) (k : ℕ) (ks : List ℕ) : Type 0 where
   pub least : (ks' : List ℕ) (w : ℕ) → Weighs M k ks' w → weight ≤ w
 
 -- at every held key the guess weighs no more than any route that begins there
-abbrev pub True : Meaning → (ℕ → ℕ) → Type 0
-True M guess = (k : ℕ) (ks : List ℕ) (w : ℕ) → M.held k ≡ true → Weighs M k ks w → guess k ≤ w
+abbrev pub IsTrueGuess : Meaning → (ℕ → ℕ) → Type 0
+IsTrueGuess M guess =
+    (k : ℕ) (ks : List ℕ) (w : ℕ) → M.held k ≡ true → Weighs M k ks w → guess k ≤ w

@@ -8,11 +8,13 @@ use Rattle.graph.specs.Zones.{in_table}
 
 -- an open road of a rank with the toll added to its weight
 abbrev pub dearer : Kind → (toll rank to w : ℕ) → Road
-dearer K toll rank to w = cond (K.fits w toll) (opened to (w + toll)) (faulty (record { rank = rank; depth = 0 }))
+dearer K toll rank to w =
+    cond (K.fits w toll) (opened to (w + toll)) (faulty (record { rank = rank; depth = 0 }))
 
 -- a road of the graph below, dearer where it leads to a charged key
 abbrev pub tolled_road : Kind → List Bool → ℕ → Meaning → ℕ → Road → Road
-tolled_road K charged toll M rank (opened to w) = cond (in_table charged M to) (dearer K toll rank to w) (opened to w)
+tolled_road K charged toll M rank (opened to w) =
+    cond (in_table charged M to) (dearer K toll rank to w) (opened to w)
 tolled_road K charged toll M rank closed = closed
 tolled_road K charged toll M rank (faulty f) = faulty (deeper f)
 

@@ -1,15 +1,21 @@
 // A fence over a graph.
-ghost use Rattle.std.specs.Prelude.{◌≡◌, ℕ, Bool};
+ghost use Rattle.graph.specs.Means.{means};
+ghost use Rattle.std.specs.Prelude.{◌≡◌};
 ghost use Rattle.graph.specs.Zones.{in_table};
 ghost use Rattle.graph.specs.Fenced.{fenced, fenced_guess};
-ghost use Rattle.graph.specs.Layers.{fenced_lawful};
+ghost use Rattle.graph.specs.Lawful.{fenced_lawful};
 
 use crate::fault::Fault;
 use crate::questions::Graph;
 use crate::zones::{Zones, zone_in};
 use kinds::{CostKind, NodeKind};
 
-// The graph below without the keys whose zone is barred, and without the roads to them.
+/// The graph below without the nodes whose zone is barred, and without the roads to them. A barred node is not held: it
+/// has zone 0, no roads, guess zero, and is no goal. A fault of the graph below comes one deeper.
+///
+/// ```
+/// let fence = Fence::new(graph, only(7));
+/// ```
 #[derive(Drop)]
 pub struct Fence<G> {
     below: G,
@@ -17,7 +23,7 @@ pub struct Fence<G> {
 }
 
 impl<G: Graph> Fence<G> {
-    // The graph under a fence that bars these zones.
+    /// The graph under a fence that bars these zones.
     pub fn new(below: G, barred: Zones) -> Fence<G>
         ensures over { result.below ≡ below }
         ensures table { result.barred ≡ barred }
@@ -25,9 +31,10 @@ impl<G: Graph> Fence<G> {
         Fence { below, barred }
     }
 
-    // Whether the node's zone is barred: a name for what all six answers ask.
+    // Whether the node's zone is barred.
     fn bars(&self, node: &G::Node) -> bool
-        ensures { result ≡ in_table self.now.barred (G.means self.now.below) (G.Node.key node.now) }
+        ensures { result
+            ≡ in_table self.now.barred (means G.Graph self.now.below) (G.Node.key node.now) }
     {
         zone_in(&self.barred, &self.below, node)
     }
@@ -38,11 +45,19 @@ impl<G: Graph> Graph for Fence<G> {
 
     type Cost = G::Cost;
 
-    ghost means = { λ f. fenced f.barred (G.means f.below) };
+    ghost holds = { λ f. (fenced f.barred (means G.Graph f.below)).held };
 
-    ghost guesses = { λ f. fenced_guess f.barred (G.means f.below) (G.guesses f.below) };
+    ghost zones = { λ f. (fenced f.barred (means G.Graph f.below)).zone };
 
-    ghost lawful = { λ f. fenced_lawful f.barred (G.means f.below) (G.guesses f.below) (G.lawful f.below) };
+    ghost counts = { λ f. (fenced f.barred (means G.Graph f.below)).count };
+
+    ghost roads = { λ f. (fenced f.barred (means G.Graph f.below)).road };
+
+    ghost guesses = { λ f. fenced_guess f.barred (means G.Graph f.below) (G.guesses f.below) };
+
+    ghost goals = { λ f. (fenced f.barred (means G.Graph f.below)).goal };
+
+    ghost lawful = { λ f. fenced_lawful f.barred _ _ (G.lawful f.below) };
 
     fn held(&self, node: &G::Node) -> bool {
         !self.bars(node) && self.below.held(node)

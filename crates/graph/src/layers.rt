@@ -1,9 +1,11 @@
-// Fences and tolls over a graph as a list, so that a program can read how many there are and in which order.
-ghost use Rattle.std.specs.Prelude.{◌≡◌, ℕ};
+// Fences and tolls over a graph as a list, where a program reads how many there are and in which order.
+ghost use Rattle.graph.specs.Means.{means};
+ghost use Rattle.std.specs.Prelude.{◌≡◌};
 ghost use Rattle.std.specs.List.{list_any};
 ghost use Rattle.graph.specs.Answers.{road_of};
-ghost use Rattle.graph.specs.Laid.{stops, past_road, laid, laid_guess, laid_lawful};
-ghost use Rattle.graph.specs.Pile.{Pile};
+ghost use Rattle.graph.specs.Layers.{bars, past_road, laid, laid_guess};
+ghost use Rattle.graph.specs.Lawful.{laid_lawful};
+ghost use Rattle.graph.specs.Pile.{IsPileOver};
 
 use crate::fault::Fault;
 use crate::questions::Graph;
@@ -11,8 +13,7 @@ use crate::toll::dearer;
 use crate::zones::{Zones, zone_in};
 use kinds::{CostKind, NodeKind};
 
-// A fence, or a toll. Its questions are about the bottom graph: where no fence further down bars a node, that has the zone
-// which the graph directly below has.
+/// A fence that bars zones, or a toll on the roads into zones. The zones are those of the bottom graph.
 #[derive(Clone, Copy, PartialEq, Eq, Debug)]
 pub enum Layer<C> {
     Fence { barred: Zones },
@@ -20,9 +21,9 @@ pub enum Layer<C> {
 }
 
 impl<C: CostKind> Layer<C> {
-    // Whether it is a fence that bars the node's zone.
+    // Whether it is a fence that bars the zone which the bottom graph has for the node.
     fn bars<G: Graph<Cost = C>>(&self, bottom: &G, node: &G::Node) -> bool
-        ensures { result ≡ stops (G.means bottom.now) (G.Node.key node.now) self.now }
+        ensures { result ≡ bars (means G.Graph bottom.now) (G.Node.key node.now) self.now }
     {
         match self {
             Layer::Fence { barred } => zone_in(barred, bottom, node),
@@ -30,14 +31,16 @@ impl<C: CostKind> Layer<C> {
         }
     }
 
-    // A road of the rank, past the layer.
+    // A road of this rank, past the layer.
     fn past<G: Graph<Cost = C>>(
         &self,
         bottom: &G,
         rank: u16,
         road: Result<Option<(G::Node, C)>, Fault>,
     ) -> Result<Option<(G::Node, C)>, Fault>
-        ensures { road_of G.Node.key C.weight result ≡ past_road C.kind C.weight (G.means bottom.now) rank (road_of G.Node.key C.weight road) self.now }
+        ensures { road_of G.Node.key C.weight result
+            ≡ past_road C.kind C.weight (means G.Graph bottom.now) rank
+            (road_of G.Node.key C.weight road) self.now }
     {
         let Some((to, cost)) = road.map_err(Fault::passed_up)? else {
             return Ok(None);
@@ -53,7 +56,15 @@ impl<C: CostKind> Layer<C> {
     }
 }
 
-// The bottom graph under the layers, the lowest first.
+/// The bottom graph under the layers, the lowest first: the same as a `Fence` or a `Toll` for each, one over another.
+///
+/// ```
+/// let layers = [
+///     Layer::Fence { barred: only(1) },
+///     Layer::Toll { cost: Millis { millis: 5 }, charged: only(7) },
+/// ];
+/// let pile = Layers::new(graph, &layers);
+/// ```
 #[derive(Drop)]
 pub struct Layers<'a, G, C> {
     bottom: G,
@@ -61,19 +72,21 @@ pub struct Layers<'a, G, C> {
 }
 
 impl<'a, C: CostKind, G: Graph<Cost = C>> Layers<'a, G, C> {
-    // The graph under these layers, which is a pile over it.
-    #[tactic(auto, using(crate::proofs::Laid::laid_pile))]
+    /// The graph under these layers: a pile over it, so that what holds of every pile holds of it.
+    #[tactic(auto, using(crate::proofs::LayersPile::laid_pile))]
     pub fn new(bottom: G, layers: &'a [Layer<C>]) -> Layers<'a, G, C>
         ensures over { result.bottom ≡ bottom }
         ensures list { result.layers.now ≡ layers.now }
-        ensures pile { Pile C.kind (G.means bottom) (G.guesses bottom) (⟦<Layers<'a, G, C> as Graph>⟧.means result) (⟦<Layers<'a, G, C> as Graph>⟧.guesses result) }
+        ensures pile { IsPileOver C.kind ⟦<Layers<'a, G, C> as Graph>⟧ result G.Graph bottom }
     {
         Layers { bottom, layers }
     }
 
     // Whether any fence bars the node.
     fn bars(&self, node: &G::Node) -> bool
-        ensures { result ≡ list_any (stops (G.means self.now.bottom) (G.Node.key node.now)) self.now.layers.now }
+        ensures { result
+            ≡ list_any (bars (means G.Graph self.now.bottom) (G.Node.key node.now))
+            self.now.layers.now }
     {
         self.layers
             .iter()
@@ -86,18 +99,27 @@ impl<'a, C: CostKind, G: Graph<Cost = C>> Graph for Layers<'a, G, C> {
 
     type Cost = C;
 
-    ghost means = { λ p. laid C.kind C.weight p.layers.now (G.means p.bottom) };
+    ghost holds = { λ p. (laid C.kind C.weight p.layers.now (means G.Graph p.bottom)).held };
 
-    ghost guesses = { λ p. laid_guess C.kind C.weight p.layers.now (G.means p.bottom) (G.guesses p.bottom) };
+    ghost zones = { λ p. (laid C.kind C.weight p.layers.now (means G.Graph p.bottom)).zone };
 
-    ghost lawful = { λ p. laid_lawful C.kind C.weight p.layers.now (G.means p.bottom) (G.guesses p.bottom) (G.lawful p.bottom) };
+    ghost counts = { λ p. (laid C.kind C.weight p.layers.now (means G.Graph p.bottom)).count };
 
-    #[tactic(auto, using(crate::proofs::Laid::laid_held))]
+    ghost roads = { λ p. (laid C.kind C.weight p.layers.now (means G.Graph p.bottom)).road };
+
+    ghost guesses = { λ p. laid_guess C.kind C.weight p.layers.now (means G.Graph p.bottom)
+        (G.guesses p.bottom) };
+
+    ghost goals = { λ p. (laid C.kind C.weight p.layers.now (means G.Graph p.bottom)).goal };
+
+    ghost lawful = { λ p. laid_lawful C.kind C.weight p.layers.now _ _ (G.lawful p.bottom) };
+
+    #[tactic(auto, using(crate::proofs::LayersPile::laid_held))]
     fn held(&self, node: &G::Node) -> bool {
         !self.bars(node) && self.bottom.held(node)
     }
 
-    #[tactic(auto, using(crate::proofs::Laid::laid_zone))]
+    #[tactic(auto, using(crate::proofs::LayersPile::laid_zone))]
     fn zone(&self, node: &G::Node) -> u8 {
         if self.bars(node) {
             return 0;
@@ -105,7 +127,7 @@ impl<'a, C: CostKind, G: Graph<Cost = C>> Graph for Layers<'a, G, C> {
         self.bottom.zone(node)
     }
 
-    #[tactic(auto, using(crate::proofs::Laid::laid_count))]
+    #[tactic(auto, using(crate::proofs::LayersPile::laid_count))]
     fn road_count(&self, node: &G::Node) -> u16 {
         if self.bars(node) {
             return 0;
@@ -113,7 +135,7 @@ impl<'a, C: CostKind, G: Graph<Cost = C>> Graph for Layers<'a, G, C> {
         self.bottom.road_count(node)
     }
 
-    #[tactic(auto, using(crate::proofs::Laid::laid_road))]
+    #[tactic(auto, using(crate::proofs::LayersPile::laid_road))]
     fn road(&self, node: &G::Node, rank: u16) -> Result<Option<(G::Node, C)>, Fault> {
         if self.bars(node) {
             return Ok(None);
@@ -125,7 +147,7 @@ impl<'a, C: CostKind, G: Graph<Cost = C>> Graph for Layers<'a, G, C> {
         road
     }
 
-    #[tactic(auto, using(crate::proofs::Laid::laid_guess_at))]
+    #[tactic(auto, using(crate::proofs::LayersPile::laid_guess_at))]
     fn guess(&self, node: &G::Node) -> C {
         if self.bars(node) {
             return C::zero();
@@ -133,7 +155,7 @@ impl<'a, C: CostKind, G: Graph<Cost = C>> Graph for Layers<'a, G, C> {
         self.bottom.guess(node)
     }
 
-    #[tactic(auto, using(crate::proofs::Laid::laid_goal))]
+    #[tactic(auto, using(crate::proofs::LayersPile::laid_goal))]
     fn goal(&self, node: &G::Node) -> bool {
         !self.bars(node) && self.bottom.goal(node)
     }

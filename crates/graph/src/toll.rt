@@ -1,15 +1,21 @@
 // A toll over a graph.
-ghost use Rattle.std.specs.Prelude.{◌≡◌, ℕ, Bool};
+ghost use Rattle.graph.specs.Means.{means};
+ghost use Rattle.std.specs.Prelude.{◌≡◌};
 ghost use Rattle.graph.specs.Answers.{road_of};
 ghost use Rattle.graph.specs.Tolled.{dearer, tolled};
-ghost use Rattle.graph.specs.Layers.{tolled_lawful};
+ghost use Rattle.graph.specs.Lawful.{tolled_lawful};
 
 use crate::fault::Fault;
 use crate::questions::Graph;
 use crate::zones::{Zones, zone_in};
 use kinds::{CostKind, NodeKind};
 
-// The graph below with one cost added to every open road that leads into a charged zone.
+/// The graph below with one cost added to every open road that leads into a charged zone. Where the sum does not fit, the
+/// road is faulty: `road` refuses with its rank and depth 0. A fault of the graph below comes one deeper.
+///
+/// ```
+/// let toll = Toll::new(graph, Millis { millis: 5 }, only(7));
+/// ```
 #[derive(Drop)]
 pub struct Toll<G, C> {
     below: G,
@@ -18,7 +24,7 @@ pub struct Toll<G, C> {
 }
 
 impl<C: CostKind, G: Graph<Cost = C>> Toll<G, C> {
-    // The graph under a toll of this cost on these zones.
+    /// The graph under a toll of this cost on these zones.
     pub fn new(below: G, cost: C, charged: Zones) -> Toll<G, C>
         ensures over { result.below ≡ below }
         ensures price { result.cost ≡ cost }
@@ -39,7 +45,8 @@ pub(crate) fn dearer<N: NodeKind, C: CostKind>(
     to: N,
     cost: C,
 ) -> Result<Option<(N, C)>, Fault>
-    ensures { road_of N.key C.weight result ≡ dearer C.kind (C.weight toll) rank (N.key to) (C.weight cost) }
+    ensures { road_of N.key C.weight result
+        ≡ dearer C.kind (C.weight toll) rank (N.key to) (C.weight cost) }
 {
     let sum = cost.sum(toll).ok_or(Fault { rank, depth: 0 })?;
     Ok(Some((to, sum)))
@@ -50,11 +57,20 @@ impl<C: CostKind, G: Graph<Cost = C>> Graph for Toll<G, C> {
 
     type Cost = C;
 
-    ghost means = { λ t. tolled C.kind t.charged (C.weight t.cost) (G.means t.below) };
+    ghost holds = { λ t. (tolled C.kind t.charged (C.weight t.cost) (means G.Graph t.below)).held };
+
+    ghost zones = { λ t. (tolled C.kind t.charged (C.weight t.cost) (means G.Graph t.below)).zone };
+
+    ghost counts = { λ t.
+        (tolled C.kind t.charged (C.weight t.cost) (means G.Graph t.below)).count };
+
+    ghost roads = { λ t. (tolled C.kind t.charged (C.weight t.cost) (means G.Graph t.below)).road };
 
     ghost guesses = { λ t. G.guesses t.below };
 
-    ghost lawful = { λ t. tolled_lawful C.kind t.charged (C.weight t.cost) (G.means t.below) (G.guesses t.below) (G.lawful t.below) };
+    ghost goals = { λ t. (tolled C.kind t.charged (C.weight t.cost) (means G.Graph t.below)).goal };
+
+    ghost lawful = { λ t. tolled_lawful C.kind t.charged (C.weight t.cost) _ _ (G.lawful t.below) };
 
     fn held(&self, node: &G::Node) -> bool {
         self.below.held(node)

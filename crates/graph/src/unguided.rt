@@ -1,12 +1,13 @@
 // A graph without its guess.
+ghost use Rattle.graph.specs.Means.{means};
 ghost use Rattle.std.specs.Prelude.{ℕ};
-ghost use Rattle.graph.specs.Unguided.{unguided_lawful};
+ghost use Rattle.graph.specs.Lawful.{unguided_lawful};
 
 use crate::fault::Fault;
 use crate::questions::Graph;
 use kinds::{CostKind, NodeKind};
 
-// The graph below, with zero as the guess everywhere.
+/// The graph below, with zero as the guess everywhere.
 #[derive(Drop)]
 pub struct Unguided<'a, G> {
     pub below: &'a G,
@@ -17,9 +18,17 @@ impl<'a, G: Graph> Graph for Unguided<'a, G> {
 
     type Cost = G::Cost;
 
-    ghost means = { λ u. G.means u.below.now };
+    ghost holds = { λ u. (means G.Graph u.below.now).held };
+
+    ghost zones = { λ u. (means G.Graph u.below.now).zone };
+
+    ghost counts = { λ u. (means G.Graph u.below.now).count };
+
+    ghost roads = { λ u. (means G.Graph u.below.now).road };
 
     ghost guesses = { λ u k. 0 };
+
+    ghost goals = { λ u. (means G.Graph u.below.now).goal };
 
     ghost lawful = { λ u. unguided_lawful _ (G.guesses u.below.now) (G.lawful u.below.now) };
 

@@ -15,9 +15,11 @@ pub struct Millis {
 
 impl fmt::Display for Millis {
     ghost use Rattle.std.specs.Prelude.{Some};
-    ghost use Rattle.std.specs.Fmt.{decimal};
+    ghost use Rattle.std.specs.Fmt.{decimal, styled_decimal};
 
     ghost output = { λ s. Some (decimal s.millis) };
+
+    ghost styled_output = { λ s spec. Some (styled_decimal spec s.millis) };
 
     fn fmt<W: fmt::Write>(&self, f: &mut fmt::Formatter<W>) -> fmt::Result {
         self.millis.fmt(f)

@@ -13,9 +13,11 @@ pub struct Station {
 
 impl fmt::Display for Station {
     ghost use Rattle.std.specs.Prelude.{Some};
-    ghost use Rattle.std.specs.Fmt.{decimal};
+    ghost use Rattle.std.specs.Fmt.{decimal, styled_decimal};
 
     ghost output = { λ s. Some (decimal s.id) };
+
+    ghost styled_output = { λ s spec. Some (styled_decimal spec s.id) };
 
     fn fmt<W: fmt::Write>(&self, f: &mut fmt::Formatter<W>) -> fmt::Result {
         self.id.fmt(f)

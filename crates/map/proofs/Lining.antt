@@ -1,4 +1,5 @@
--- The next line that comes off a text is the first of its lines. The library proves this of `lines` too, but for itself alone.
+-- The next line that comes off a text is the first of its lines. The library proves this too, but keeps it to itself: what it offers of `lines`
+-- (`YieldsList-from_lines`) says what every run of `next` gives, and not what is left after one.
 use Rattle.std.proofs.Common.{◌≡◌, ℕ, ◌+◌, ◌-◌, ◌<◌, ◌≤◌, false, cond, List, [], ◌∷◌, ◌++◌, length, get_or, take, drop, take-append-drop, length-drop, refl, sym, ◌∙◌, ap, subst, arith, inl, inr, Some, None, Option, Bor}
 use Rattle.std.specs.Prelude.{◌==◌, encode_utf8}
 use Rattle.std.specs.List.{All, slice_split}

@@ -4,21 +4,22 @@ use Rattle.kinds.specs.Millis.{millis_kind}
 use Rattle.kinds.specs.declared.cell.Cell.{Cell}
 use Rattle.kinds.specs.declared.millis.Millis.{Millis}
 use Rattle.graph.specs.declared.layers.Layers.{Layers}
-use Rattle.graph.proofs.Laid.{laid_pile}
+use Rattle.graph.proofs.LayersPile.{laid_pile}
 use Rattle.field.specs.declared.grid.Field.{Field}
 use Rattle.field.specs.Means.{field_meaning, field_guess}
 use Rattle.field.specs.Laws.{few_columns}
 use Rattle.field.proofs.Ahead.{guess_true}
-use Rattle.search.specs.Answers.{Method, dijkstra, astar}
-use Rattle.search.specs.Laws.{Guided}
-use Rattle.report.specs.declared.priced.PricedRoute.{PricedRoute}
-use Rattle.report.specs.declared.priced.RouteRefusal.{RouteRefusal}
-use Rattle.report.specs.Priced.{FoundRoute, Cheapest, Answered}
+use Rattle.search.specs.declared.method.Method.{Method}
+use Rattle.search.specs.declared.method.Method.TheVariants.{Dijkstra, Astar, AstarBag, Fringe, Idastar}
+use Rattle.search.specs.Laws.{Founded, Guided}
+use Rattle.search.specs.Taken.{FoundRoute, Cheapest}
+use Rattle.routes.specs.declared.priced_route.PricedRoute.{PricedRoute}
+use Rattle.routes.specs.declared.refusal.RouteRefusal.{RouteRefusal}
+use Rattle.routes.specs.Came.{came_of, Answered}
 use Rattle.map.specs.Ground.{meant, guessed, key_of, weight_of}
 
-guided : (m : Method) (pile : Layers Field Millis) → Guided millis_kind m (meant pile) (guessed pile)
-guided dijkstra pile = tt
-guided astar pile =
+founded : (pile : Layers Field Millis) → Founded millis_kind (meant pile) (guessed pile)
+founded pile =
     let f = pile.bottom in
     record {
       bottom = field_meaning f.layout f.map.now;
@@ -27,8 +28,15 @@ guided astar pile =
       truth = guess_true f.layout f.map.now (few_columns f.layout f.range);
     }
 
+guided : (m : Method) (pile : Layers Field Millis) → Guided millis_kind m (meant pile) (guessed pile)
+guided Dijkstra pile = tt
+guided Astar pile = founded pile
+guided AstarBag pile = founded pile
+guided Fringe pile = founded pile
+guided Idastar pile = founded pile
+
 -- so that what is found there is a cheapest route
-pub cheapest : (m : Method) (pile : Layers Field Millis) (start : ℕ) (result : Result (Option (PricedRoute Cell Millis)) RouteRefusal) → Answered key_of weight_of (FoundRoute millis_kind m (meant pile) (guessed pile) start) (meant pile) start result → Answered key_of weight_of (Cheapest (meant pile) start) (meant pile) start result
-cheapest m pile start (Ok (Some found)) a = a.cheapest (guided m pile)
-cheapest m pile start (Ok None) a = a
-cheapest m pile start (Err e) a = a
+pub cheapest_route : (m : Method) (pile : Layers Field Millis) (start : ℕ) (result : Result (Option (PricedRoute Cell Millis)) RouteRefusal) → Answered (FoundRoute millis_kind m (meant pile) (guessed pile) start) (meant pile) start (came_of key_of weight_of result) → Answered (Cheapest (meant pile) start) (meant pile) start (came_of key_of weight_of result)
+cheapest_route m pile start (Ok (Some found)) a = a.cheapest (guided m pile)
+cheapest_route m pile start (Ok None) a = a
+cheapest_route m pile start (Err e) a = a

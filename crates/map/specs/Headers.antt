@@ -1,5 +1,5 @@
 -- What the lines before the map say, by their words.
-use Rattle.std.specs.Prelude.{◌≡◌, ◌≢◌, ℕ, ◌^◌, ◌==◌, Bool, false, true, ◌&&◌, List, [], ◌∷◌, drop, length, replicate, if◌then◌else◌, Some, None, Option, option_and_then, slice_get, slice_set, nat_lt, codes}
+use Rattle.std.specs.Prelude.{◌≡◌, ◌≢◌, ℕ, ◌^◌, ◌==◌, Bool, false, true, ◌&&◌, List, [], ◌∷◌, drop, length, replicate, if◌then◌else◌, Some, None, Option, option_and_then, slice_get, slice_set, nat_lt, codes, Result, MatchResult}
 use Rattle.std.specs.List.{list_any}
 use Rattle.std.specs.Option.{option_map}
 use Rattle.std.specs.Str.{chars, all_ascii_digits}
@@ -89,3 +89,7 @@ LacksHeader words mistake.Fence = Named (codes "fence") words (λ more. zones_of
 LacksHeader words mistake.Toll = Named (codes "toll") words (λ more. toll_of more ≡ None)
 LacksHeader words mistake.Map = Named (codes "map") words (λ more. more ≢ [])
 LacksHeader words _ = ⊥
+
+-- the words are read as what they say, or refused by the mistake that they make
+abbrev pub ReadsHeader : List (List ℕ) → Result Header Mistake → Type 0
+ReadsHeader words r = MatchResult r (SaysHeader words) (LacksHeader words)

@@ -16,7 +16,12 @@ plan_of heading =
       layers = heading.layers;
     })) heading.start) heading.target) heading.size
 
--- what a line says is kept where nothing was, and else the line is the second of its word
+-- a value is kept where nothing was, and else the line is the second of its word
+abbrev pub KeepsFirst : {T : Type 0} → Option T → T → Result (Unit {0}) Mistake → Option T → Type 0
+KeepsFirst old value result now =
+    MatchOption old ((result ≡ Ok tt) × (now ≡ Some value)) (λ _. (result ≡ Err Twice) × (now ≡ old))
+
+-- the same of what a line says
 abbrev pub Keeps : {T : Type 0} → Option T → Said → Said → Result Bool Mistake → Said → Type 0
 Keeps place kept old result now = MatchOption place ((result ≡ Ok false) × (now ≡ kept)) (λ _. (result ≡ Err Twice) × (now ≡ old))
 

@@ -1,6 +1,7 @@
 pub mod Signs
 pub mod Picture
 pub mod Words
+pub mod Mistakes
 pub mod Headers
 pub mod Rows
 pub mod Plans

@@ -1,6 +1,7 @@
 -- A map with a route drawn on it, as the numbers of its characters.
 use Rattle.std.specs.Prelude.{ℕ, ◌+◌, ◌*◌, if◌then◌else◌, List, map, fold, length, nat_lt, slice_set}
 use Rattle.kinds.specs.declared.cell.Cell.{Cell}
+use Rattle.map.specs.declared.drawing.Drawing.{Drawing}
 use Rattle.map.specs.Signs.{sign_of}
 
 -- signs with one at this position in place of what was there, if there is such a position
@@ -19,3 +20,7 @@ marked_all sign columns cells signs = fold (λ drawn cell. marked sign columns c
 abbrev pub picture : ℕ → (start target : Cell) → List Cell → List ℕ → List ℕ
 picture columns start target route bytes =
     marked 64 columns start (marked 33 columns target (marked_all 42 columns route (map sign_of bytes)))
+
+-- that of a drawing
+abbrev pub picture_of : Drawing → (route : List Cell) → List ℕ
+picture_of d route = picture d.plan.layout.columns d.plan.start d.plan.layout.target route d.map.items

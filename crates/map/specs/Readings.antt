@@ -1,13 +1,13 @@
 -- What a text says, line by line: a plan and the bytes of a map, or the first problem. Below `taken` lines the next has
 -- number taken + 1.
-use Rattle.std.specs.Prelude.{◌≡◌, ℕ, ◌+◌, ◌==◌, ◌⊎◌, Bool, true, false, List, [], ◌∷◌, length, nat_lt, if◌then◌else◌, None, Option, Some, Result, Ok, Err}
+use Rattle.std.specs.Prelude.{◌≡◌, ℕ, ◌+◌, ◌==◌, ◌⊎◌, Bool, true, false, List, [], ◌∷◌, length, nat_lt, if◌then◌else◌, None, Option, Some, Result, Ok, Err, MatchResult}
 use Rattle.std.specs.Result.{result_map_both}
 use Rattle.std.specs.Str.{trim_end}
 use Rattle.std.specs.Str.Lines.{lines}
 use Rattle.field.specs.declared.layout.Layout.{Layout}
 use Rattle.map.specs.declared.header.Header.{Header}
 use Rattle.map.specs.declared.mistake.Mistake.{Mistake}
-use Rattle.map.specs.declared.mistake.Mistake.TheVariants.{Early, NoMap, Short, Long}
+use Rattle.map.specs.declared.mistake.Mistake.TheVariants.{Early, NoMap, Short, Long, Memory}
 use Rattle.map.specs.declared.mistake.Problem.{Problem}
 use Rattle.map.specs.Words.{words}
 use Rattle.map.specs.Headers.{SaysHeader, LacksHeader}
@@ -53,6 +53,15 @@ abbrev pub and_then : {T U : Type 0} → (T → Result U Problem) → Result T P
 and_then next (Ok x) = next x
 and_then next (Err problem) = Err problem
 
+-- an answer is a reading, which is made of its value; but where there is no memory
+abbrev pub IsReading : {T R : Type 0} → (Result R Problem → Type 0) → (T → R) → Result T Problem → Type 0
+IsReading Says of result =
+    MatchResult result (λ x. Says (Ok (of x))) (λ problem. (problem.mistake ≡ Memory) ⊎ Says (Err problem))
+
+-- the plan that these lines say, with what is left below it
+abbrev pub PlanFrom : LinesLeft → Result (Planned × LinesLeft) Problem → Type 0
+PlanFrom left reading = ReadsPlan no_heading left.taken left.lines reading
+
 -- the rows from `found` on: these bytes with theirs behind them, and what is left below the last
 abbrev pub rows_read : Layout → ℕ → List ℕ → ℕ → List (List ℕ) → Result (List ℕ × LinesLeft) Problem
 rows_read layout found bytes taken [] =
@@ -61,6 +70,10 @@ rows_read layout found bytes taken (line ∷ below) =
     if nat_lt found layout.rows
     then and_then (λ longer. rows_read layout (found + 1) longer (taken + 1) below) (result_map_both (λ bytes. bytes) (at (taken + 1)) (row_read bytes layout.columns (trim_end line)))
     else Ok (bytes, record { taken = taken; lines = line ∷ below })
+
+-- the bytes of the rows that these lines are, with what is left below them
+abbrev pub RowsFrom : Layout → LinesLeft → Result (List ℕ × LinesLeft) Problem → Type 0
+RowsFrom layout left reading = rows_read layout 0 [] left.taken left.lines ≡ reading
 
 -- below the last row each line is blank
 abbrev pub end_read : ℕ → ℕ → List (List ℕ) → Result (Unit {0}) Problem

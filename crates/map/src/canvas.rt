@@ -1,7 +1,7 @@
 // A map with a route drawn on it.
 ghost use Rattle.std.specs.Prelude.{◌≡◌, map, IfOk, string_bytes, encode_utf8_all};
 ghost use Rattle.map.specs.Signs.{sign_of};
-ghost use Rattle.map.specs.Picture.{marked, marked_all, picture};
+ghost use Rattle.map.specs.Picture.{marked, marked_all, picture_of};
 
 use crate::drawing::Drawing;
 use crate::signs::sign_of;
@@ -49,7 +49,7 @@ impl Canvas {
 
     // A drawing with * for the cells of the route, ! for the target and @ for the start.
     pub fn draw(heap: Global, drawing: &Drawing, route: &[Cell]) -> Result<Canvas, AllocError>
-        ensures signs { IfOk result (λ c. c.signs.items ≡ picture drawing.now.plan.layout.columns drawing.now.plan.start drawing.now.plan.layout.target route.now drawing.now.map.items) }
+        ensures signs { IfOk result (λ c. c.signs.items ≡ picture_of drawing.now route.now) }
         ensures columns { IfOk result (λ c. c.columns ≡ drawing.now.plan.layout.columns) }
     {
         let plan = &drawing.plan;

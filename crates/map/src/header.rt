@@ -1,8 +1,8 @@
 // The lines before the map, each a word and what it asks for.
-ghost use Rattle.std.specs.Prelude.{◌≡◌, ◌<◌, IfSome, MatchResult};
+ghost use Rattle.std.specs.Prelude.{◌≡◌, ◌<◌, IfSome};
 ghost use Rattle.std.specs.Option.{option_map};
 ghost use Rattle.map.specs.Words.{words};
-ghost use Rattle.map.specs.Headers.{size_of, cell_of, zone_of, zones_of, toll_of, SaysHeader, LacksHeader};
+ghost use Rattle.map.specs.Headers.{size_of, cell_of, zone_of, zones_of, toll_of, ReadsHeader};
 
 use crate::drawing::Charge;
 use crate::mistake::Mistake;
@@ -96,7 +96,7 @@ fn toll_line(mut words: Words) -> Option<Charge>
 impl FromStr for Header {
     type Err = Mistake;
 
-    ghost from_str_gives = { λ line r. MatchResult r (SaysHeader (words line)) (LacksHeader (words line)) };
+    ghost from_str_gives = { λ line r. ReadsHeader (words line) r };
 
     fn from_str(line: &str) -> Result<Header, Mistake> {
         let mut words = Words::of(line);

@@ -1,10 +1,10 @@
 // A drawing read line by line.
-ghost use Rattle.std.specs.Prelude.{◌≡◌, ◌⊎◌, [], true, MatchOption, MatchResult};
+ghost use Rattle.std.specs.Prelude.{◌≡◌, ◌⊎◌, true};
 ghost use Rattle.map.specs.declared.mistake.Mistake.TheVariants.{Memory};
 ghost use Rattle.map.specs.Rows.{ReadsRow};
 ghost use Rattle.map.specs.Plans.{Said};
-ghost use Rattle.map.specs.Headings.{plan_of, is_laid, TakesHeader};
-ghost use Rattle.map.specs.Readings.{no_heading, TakesHeading, ReadsPlan, rows_read, end_read, Reads, HasOneReading};
+ghost use Rattle.map.specs.Headings.{plan_of, is_laid, KeepsFirst, TakesHeader};
+ghost use Rattle.map.specs.Readings.{no_heading, TakesHeading, IsReading, PlanFrom, RowsFrom, end_read, Reads, HasOneReading};
 
 use crate::drawing::{Drawing, Plan};
 use crate::header::{Header, Size};
@@ -34,7 +34,7 @@ impl Model for Heading {
 
 // Keeps what a line says, if no line of its word came before.
 fn keep<T: Copy>(place: &mut Option<T>, value: T) -> Result<(), Mistake>
-    ensures { MatchOption place.old ((result ≡ Ok tt) × (place.new ≡ Some value)) (λ _. (result ≡ Err Mistake.Twice) × (place.new ≡ place.old)) }
+    ensures { KeepsFirst place.old value result place.new }
 {
     if place.is_some() {
         return Err(Mistake::Twice);
@@ -107,7 +107,7 @@ impl Heading {
 
 // The plan that the lines up to the map say.
 fn read_plan(heap: Global, lines: &mut NumberedLines) -> Result<Plan, Problem>
-    ensures { MatchResult result (λ plan. ReadsPlan no_heading lines.old.taken lines.old.lines (Ok (plan, lines.new))) (λ problem. (problem.mistake ≡ Memory) ⊎ ReadsPlan no_heading lines.old.taken lines.old.lines (Err problem)) }
+    ensures { IsReading (PlanFrom lines.old) (λ plan. (plan, lines.new)) result }
 {
     let mut heading = Heading::new(heap);
     while let Some((number, line)) = lines.next() {
@@ -139,7 +139,7 @@ fn add_row(map: &mut Vec<u8>, columns: u16, line: &str) -> Result<(), Mistake>
 // The bytes of the map's rows.
 #[tactic(auto, using(crate::proofs::ReadingLemmas::rows_done))]
 fn read_rows(heap: Global, lines: &mut NumberedLines, layout: Layout) -> Result<Vec<u8>, Problem>
-    ensures { MatchResult result (λ map. rows_read layout 0 [] lines.old.taken lines.old.lines ≡ Ok (map.items, lines.new)) (λ problem. (problem.mistake ≡ Memory) ⊎ (rows_read layout 0 [] lines.old.taken lines.old.lines ≡ Err problem)) }
+    ensures { IsReading (RowsFrom layout lines.old) (λ map. (map.items, lines.new)) result }
 {
     let Layout { columns, rows, .. } = layout;
     let mut map = Vec::new(heap);
@@ -171,7 +171,7 @@ fn read_end(lines: NumberedLines, rows: u16) -> Result<(), Problem>
 #[tactic(auto, using(crate::proofs::OneReading::one_reading))]
 pub fn read(heap: Global, text: &str) -> Result<Drawing, Problem>
     ensures only { HasOneReading text.now }
-    ensures reading { MatchResult result (λ drawing. Reads text.now (Ok (drawing.plan, drawing.map.items))) (λ problem. (problem.mistake ≡ Memory) ⊎ Reads text.now (Err problem)) }
+    ensures reading { IsReading (Reads text.now) (λ drawing. (drawing.plan, drawing.map.items)) result }
 {
     let mut lines = NumberedLines::of(text);
     let plan = read_plan(heap, &mut lines)?;

@@ -1,17 +1,16 @@
 // The searches over a drawing, and the lines that say what they came to.
-ghost use Rattle.std.specs.Prelude.{◌≡◌, ◌≢◌, ◌<◌, ◌≤◌, length, Err};
-ghost use Rattle.search.specs.declared.refusal.HandOutRefusal.{HandOutRefusal};
-ghost use Rattle.report.specs.declared.priced.RouteRefusal.TheVariants.{HandOut};
-ghost use Rattle.map.specs.Ground.{ground, ground_guess, meant, guessed, Surveyed, SurveyCalls};
+ghost use Rattle.std.specs.Prelude.{◌≡◌, ◌<◌};
+ghost use Rattle.map.specs.Ground.{ground, ground_guess, meant, guessed, PileSurveyed, PileCalls, Surveyed, SurveyCalls, HasRoom};
 
 use crate::canvas::{Canvas, text_of};
 use crate::drawing::Drawing;
-use field::Field;
+use field::{Field, check};
 use graph::{Fault, Layers};
 use kinds::{Cell, Millis};
-use planner::Planner;
-use report::{Desk, Found, Memory, Method, PricedRoute, RouteRefusal};
-use search::SeekRefusal;
+use planner::{Planner, Sizes};
+use report::Found;
+use routes::{Desk, Memory, PricedRoute, RouteRefusal};
+use search::{Method, SeekRefusal};
 use std::fmt;
 
 // A field under fences and tolls.
@@ -37,6 +36,10 @@ impl fmt::Display for Reason {
                 f,
                 "a toll does not fit, at the planner's row {row}, rank {rank}, depth {depth}"
             ),
+            SeekRefusal::ZeroWeight { row, rank } => write!(
+                f,
+                "a step weighs nothing, at the planner's row {row}, rank {rank}"
+            ),
             SeekRefusal::NoSum {
                 row,
                 rank: Some(rank),
@@ -51,8 +54,27 @@ impl fmt::Display for Reason {
                 f,
                 "no row is left, at the planner's row {row}, rank {rank}"
             ),
+            SeekRefusal::NoLink { row, rank } => write!(
+                f,
+                "no link is left, at the planner's row {row}, rank {rank}"
+            ),
         }
     }
+}
+
+// Seeks a route over a pile, in the room for it: a cheapest one, at its cost, since the guess of every field is true.
+fn cheapest<'r>(
+    pile: &Pile,
+    method: Method,
+    planner: &mut Planner<Cell, Millis>,
+    start: Cell,
+    room: &'r mut [Cell],
+) -> Result<Option<PricedRoute<'r, Cell, Millis>>, RouteRefusal>
+    ensures answers { PileSurveyed pile.now start result }
+    ensures calls { PileCalls pile.now start method room.old planner.old result planner.new }
+    ensures room { HasRoom planner.old room.old result }
+{
+    PricedRoute::seek(planner, method, pile, start, room)
 }
 
 // A drawing that is searched, with its pile, and where the lines go that say what the searches come to.
@@ -87,11 +109,11 @@ impl<R: Print + AllocGlobal> Survey<'_, R> {
         room: &'r mut [Cell],
     ) -> Result<Option<PricedRoute<'r, Cell, Millis>>, RouteRefusal>
         ensures answers { Surveyed self.now.drawing.now result }
-        ensures calls { SurveyCalls self.now.drawing.now method (length room.old) planner.old result planner.new }
-        ensures room { 0 < length room.old → planner.old.capacity.rows ≤ length room.old → (r : HandOutRefusal) → result ≢ Err (HandOut r) }
+        ensures calls { SurveyCalls self.now.drawing.now method room.old planner.old result planner.new }
+        ensures room { HasRoom planner.old room.old result }
     {
         let plan = &self.drawing.plan;
-        method.route(planner, &self.pile, plan.start, room)
+        cheapest(&self.pile, method, planner, plan.start, room)
     }
 
     // Runs one search, and prints what it came to.
@@ -116,17 +138,17 @@ impl<R: Print + AllocGlobal> Survey<'_, R> {
 pub fn run<R: Print + AllocGlobal>(rt: &R, drawing: &Drawing) -> anyhow::Result<()> {
     let layout = drawing.plan.layout;
     let map = drawing.map.as_slice();
-    let field = match Field::new(layout, map) {
-        Ok(field) => field,
-        Err(refusal) => {
-            return Ok(println!(rt; "field refused {}: {refusal}", u8::from(refusal))?);
-        }
-    };
-    let mut memory = Memory::new(rt.alloc(), Cell { column: 0, row: 0 }, map.len(), 0)?;
-    let mut desk = match memory.desk() {
-        Ok(desk) => desk,
-        Err(refusal) => return Ok(println!(rt; "planner refused {}", u8::from(refusal))?),
-    };
+    if let Err(refusal) = check(layout, map) {
+        return Ok(println!(rt; "field refused {}: {refusal}", u8::from(refusal))?);
+    }
+    let field = Field::make(layout, map);
+    // A link for each two cells beside one another is enough: one of them costs less, and only that one is the other's parent.
+    let links = (2 * map.len()).saturating_sub(1);
+    if let Err(refusal) = planner::check(Sizes::of(map.len(), links)) {
+        return Ok(println!(rt; "planner refused {}", u8::from(refusal))?);
+    }
+    let mut memory = Memory::new(rt.alloc(), Cell { column: 0, row: 0 }, map.len(), links)?;
+    let mut desk = memory.desk()?;
     let survey = Survey {
         rt,
         drawing,

@@ -110,7 +110,10 @@ fn rows_of_the_map(rt: HostRuntime) -> Result<(), Fail> {
             "..\n..\n\n..\n",
             "line 8: expected 2 rows, and nothing after them\n",
         ),
-        (".. \n#7\n\n", "dijkstra 2\n@*\n#!\nastar 2\n@*\n#!\n"),
+        (
+            ".. \n#7\n\n",
+            "dijkstra 2\n@*\n#!\nastar 2\n@*\n#!\nastar_bag 2\n@*\n#!\nfringe 2\n@*\n#!\nidastar 2\n@*\n#!\n",
+        ),
     ] {
         let text = format!(in rt.alloc(); "field 2 2 1\nstart 0 0\ntarget 1 1\nmap\n{rows}")?;
         assert_eq!(rt; printed(rt.alloc(), text.as_str())?.as_str(), answer);
@@ -131,9 +134,24 @@ fn no_route(rt: HostRuntime) -> Result<(), Fail> {
             "refused 8: a toll does not fit, at the planner's row 0, rank 1, depth 0",
         ),
     ] {
-        let lines = format!(in rt.alloc(); "dijkstra {answer}\nastar {answer}\n")?;
+        let lines = format!(in rt.alloc();
+            "dijkstra {answer}\nastar {answer}\nastar_bag {answer}\nfringe {answer}\nidastar {answer}\n"
+        )?;
         assert_eq!(rt; printed(rt.alloc(), text)?.as_str(), lines.as_str());
     }
+    Ok(())
+}
+
+// The toll fits on its step; then the step behind it does not, nor the guess, which the others add: fringe where it takes the row.
+#[test]
+fn no_cost(rt: HostRuntime) -> Result<(), Fail> {
+    let text = "field 3 1 1\nstart 0 0\ntarget 2 0\ntoll 4294967294 7\nmap\n.7.\n";
+    let lines = "dijkstra refused 10: a cost does not fit, at the planner's row 1, rank 1\n\
+                 astar refused 10: a cost does not fit, at the planner's row 0, rank 1\n\
+                 astar_bag refused 10: a cost does not fit, at the planner's row 0, rank 1\n\
+                 fringe refused 10: a cost does not fit, at the planner's row 1\n\
+                 idastar refused 10: a cost does not fit, at the planner's row 0, rank 1\n";
+    assert_eq!(rt; printed(rt.alloc(), text)?.as_str(), lines);
     Ok(())
 }
 

@@ -1,10 +1,9 @@
 // The words of a line.
-ghost use Rattle.std.specs.Prelude.{◌≡◌, ℕ, List, [], ◌∷◌, Result, IsSome, ◌↔◌};
+ghost use Rattle.std.specs.Prelude.{◌≡◌, ℕ, List, [], ◌∷◌, IsSome, ◌↔◌};
 ghost use Rattle.std.specs.Iterator.{YieldsFirstBy, item_count};
-ghost use Rattle.std.specs.Result.{result_ok};
 ghost use Rattle.std.specs.Str.{IsUtf8};
 ghost use Rattle.std.specs.Str.Iter.{split_whitespace_rest};
-ghost use Rattle.map.specs.Words.{words, TakesWord};
+ghost use Rattle.map.specs.Words.{words, IsParsed, TakesWord};
 
 use std::marker::Model;
 use std::str::{FromStr, SplitWhitespace};
@@ -36,6 +35,15 @@ impl<'a> Iterator for Words<'a> {
     }
 }
 
+// What a word is parsed to, if it can be.
+fn parsed<F: FromStr>(word: &str) -> Option<F>
+where
+    F::Err: Drop,
+    ensures { IsParsed F.from_str_gives word.now result }
+{
+    word.parse().ok()
+}
+
 impl<'a> Words<'a> {
     pub fn of(line: &'a str) -> Words<'a>
         ensures { result ≡ words line.now }
@@ -49,9 +57,9 @@ impl<'a> Words<'a> {
     pub fn number<F: FromStr>(&mut self) -> Option<F>
     where
         F::Err: Drop,
-        ensures { TakesWord (λ word value. (r : Result F F.Err) × F.from_str_gives word r × (value ≡ result_ok r)) self.old result self.new }
+        ensures { TakesWord (IsParsed F.from_str_gives) self.old result self.new }
     {
-        self.next()?.parse().ok()
+        parsed(self.next()?)
     }
 
     // Nothing, where no word is left.

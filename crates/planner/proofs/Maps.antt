@@ -1,17 +1,12 @@
 -- The planner's lists and the definition's: each operation of the one is that of the other, and what each keeps.
-use Rattle.std.specs.Option.{option_map}
-use Rattle.std.proofs.Common.{◌≡◌, ℕ, zero, suc, ◌+◌, ◌<◌, ◌≤◌, Bool, true, false, cond, eqb, ltb-true, List, [], ◌∷◌, ◌++◌, map, length, get_or, set, Some, None, Option, sym, refl, ap, ◌∙◌, subst, arith, length-append, length-set}
+use Rattle.std.proofs.Common.{◌≡◌, ℕ, zero, suc, ◌+◌, ◌<◌, ◌≤◌, Bool, true, false, List, [], ◌∷◌, ◌++◌, map, length, get_or, set, Some, None, Option, refl, arith, length-append, length-set, ltb-true}
+use Rattle.std.specs.List.{AllByRecursion}
 use Rattle.std.proofs.lemmas.Bool.Decides.{nat_tests}
-use Rattle.std.proofs.lemmas.List.{length-map, map-append, map-set, get_or-map}
-use Rattle.std.proofs.lemmas.List.Elements.{All-from_recursion}
+use Rattle.std.proofs.lemmas.Grind.{common_steps}
 use Rattle.store.specs.Rows.{number_of}
-use Rattle.store.specs.declared.slots.Waiting.{Waiting}
-use Rattle.store.specs.Queue.{without as without₀, first_out as first_out₀}
-use Rattle.search.specs.Rows.{no_row, find}
-use Rattle.search.specs.Queue.{without, first_out}
-use Rattle.planner.specs.declared.frontier.Reached.{Reached}
-use Rattle.planner.specs.Views.{row_of, rows_of, entry_of, entries_of}
-use Rattle.planner.specs.Good.{Below, Parents}
+use Rattle.links.specs.Listings.{held}
+use Rattle.search.specs.Rows.{no_row, find, links_in}
+use Rattle.planner.specs.Standing.{row_of, rows_of, Below}
 
 -- some element of a list that has one
 pub some_of : {X : Type 0} (l : List X) (j : ℕ) → j < length l → X
@@ -19,78 +14,102 @@ some_of [] j h = absurd (omega arith)
 some_of (x ∷ l) j h = x
 
 module _ {N C : Type 0} (key : N → ℕ) (weight : C → ℕ) where
-  pub find_rows : (k : ℕ) (l : List (N × Reached C)) → find k (rows_of key weight l) ≡ number_of key k l
-  find_rows k [] = refl
-  find_rows k (x ∷ l) = grind (arith, find_rows k l)
+  pub find_rows : (k : ℕ) (l : List (N × C)) (ps : List (List ℕ)) → find k (rows_of key weight l ps) ≡ number_of key k l
+  find_rows k [] ps = refl
+  find_rows k (x ∷ l) [] = grind (arith, find_rows k l [])
+  find_rows k (x ∷ l) (p ∷ ps) = grind (arith, find_rows k l ps)
 
-  -- the row that was read from the register
-  pub row_is : (l : List (N × Reached C)) (j : ℕ) (n : N) (v : Reached C) → j < length l → ((d : N × Reached C) → n ≡ (get_or l j d).0) → ((d : N × Reached C) → v ≡ (get_or l j d).1) → get_or (rows_of key weight l) j no_row ≡ record { key = key n; cost = weight v.cost; parent = v.parent }
-  row_is l j n v h en ev =
-      let d = some_of l j h in
-      let a = en d in
-      let b = ev d in
-      let e = get_or-map (row_of key weight) l j d no_row h in
-      grind arith
+  pub length_rows : (l : List (N × C)) (ps : List (List ℕ)) → length (rows_of key weight l ps) ≡ length l
+  length_rows [] ps = refl
+  length_rows (x ∷ l) [] = grind (arith, length_rows l [])
+  length_rows (x ∷ l) (p ∷ ps) = grind (arith, length_rows l ps)
 
-  -- the cost and the parent of the row whose value was read
-  pub reached_is : (l : List (N × Reached C)) (j : ℕ) (v : Reached C) → j < length l → ((d : N × Reached C) → v ≡ (get_or l j d).1) → (weight v.cost ≡ (get_or (rows_of key weight l) j no_row).cost) × (v.parent ≡ (get_or (rows_of key weight l) j no_row).parent)
-  reached_is l j v h ev =
-      let d = some_of l j h in
-      let b = ev d in
-      let e = get_or-map (row_of key weight) l j d no_row h in
-      grind arith
+  pub rows_push : (l : List (N × C)) (ps : List (List ℕ)) (x : N × C) (p : List ℕ) → length ps ≡ length l → rows_of key weight (l ++ x ∷ []) (ps ++ p ∷ []) ≡ rows_of key weight l ps ++ row_of key weight x p ∷ []
+  rows_push [] [] x p e = refl
+  rows_push [] (q ∷ ps) x p e = cc
+  rows_push (y ∷ l) [] x p e = cc
+  rows_push (y ∷ l) (q ∷ ps) x p e = grind (arith, common_steps, rows_push l ps x p)
+
+  pub rows_set : (l : List (N × C)) (ps : List (List ℕ)) (j : ℕ) (x : N × C) (p : List ℕ) → length ps ≡ length l → rows_of key weight (set l j x) (set ps j p) ≡ set (rows_of key weight l ps) j (row_of key weight x p)
+  rows_set [] [] j x p e = refl
+  rows_set [] (q ∷ ps) j x p e = cc
+  rows_set (y ∷ l) [] j x p e = cc
+  rows_set (y ∷ l) (q ∷ ps) zero x p e = refl
+  rows_set (y ∷ l) (q ∷ ps) (suc j) x p e = grind (arith, common_steps, rows_set l ps j x p)
+
+  -- another list of parents for one row
+  pub rows_tied : (l : List (N × C)) (ps : List (List ℕ)) (j : ℕ) (p : List ℕ) (d : N × C) → length ps ≡ length l → j < length l → rows_of key weight l (set ps j p) ≡ set (rows_of key weight l ps) j (row_of key weight (get_or l j d) p)
+  rows_tied [] ps j p d e h = absurd (omega arith)
+  rows_tied (y ∷ l) [] j p d e h = cc
+  rows_tied (y ∷ l) (q ∷ ps) zero p d e h = refl
+  rows_tied (y ∷ l) (q ∷ ps) (suc j) p d e h = grind (arith, common_steps, rows_tied l ps j p d)
+
+  -- a row by its node and cost, and its parents
+  pub row_at : (l : List (N × C)) (ps : List (List ℕ)) (j : ℕ) (d : N × C) → length ps ≡ length l → j < length l → get_or (rows_of key weight l ps) j no_row ≡ row_of key weight (get_or l j d) (get_or ps j [])
+  row_at [] ps j d e h = absurd (omega arith)
+  row_at (y ∷ l) [] j d e h = cc
+  row_at (y ∷ l) (q ∷ ps) zero d e h = refl
+  row_at (y ∷ l) (q ∷ ps) (suc j) d e h = grind (arith, common_steps, row_at l ps j d)
+
+  pub links_rows : (l : List (N × C)) (ps : List (List ℕ)) → length ps ≡ length l → links_in (rows_of key weight l ps) ≡ held ps
+  links_rows [] [] e = refl
+  links_rows [] (q ∷ ps) e = cc
+  links_rows (y ∷ l) [] e = cc
+  links_rows (y ∷ l) (q ∷ ps) e = grind (arith, common_steps, links_rows l ps)
 
 module _ {N C : Type 0} (key : N → ℕ) where
-  pub number_below : (k : ℕ) (l : List (N × Reached C)) (j : ℕ) → number_of key k l ≡ Some j → j < length l
+  pub number_below : (k : ℕ) (l : List (N × C)) (j : ℕ) → number_of key k l ≡ Some j → j < length l
   number_below k [] j e = cc
   number_below k (x ∷ l) j e = grind (arith, number_below k l)
 
-  pub number_key : (k : ℕ) (l : List (N × Reached C)) (j : ℕ) (d : N × Reached C) → number_of key k l ≡ Some j → key (get_or l j d).0 ≡ k
+  pub number_key : (k : ℕ) (l : List (N × C)) (j : ℕ) (d : N × C) → number_of key k l ≡ Some j → key (get_or l j d).0 ≡ k
   number_key k [] j d e = cc
   number_key k (x ∷ l) j d e = grind (arith, nat_tests, number_key k l)
 
-module _ {C : Type 0} (weight : C → ℕ) where
-  pub without_entries : (j : ℕ) (q : List (Waiting C)) → without j (entries_of weight q) ≡ entries_of weight (without₀ j q)
-  without_entries j [] = refl
-  without_entries j (x ∷ q) = grind (arith, without_entries j q)
+-- one link more than without the row's list
+pub held_one : (ps : List (List ℕ)) (j p : ℕ) → j < length ps → held (set ps j (p ∷ [])) ≡ held (set ps j []) + 1
+held_one [] j p h = absurd (omega arith)
+held_one (q ∷ ps) zero p h = grind (arith, common_steps)
+held_one (q ∷ ps) (suc j) p h = grind (arith, common_steps, held_one ps j p)
 
-  pub first_entries : (q : List (Waiting C)) → first_out (entries_of weight q) ≡ option_map (entry_of weight) (first_out₀ weight q)
-  first_entries [] = refl
-  first_entries (x ∷ q) = grind (arith, first_entries q)
+-- one link more than with the list so far
+pub held_more : (ps : List (List ℕ)) (j p : ℕ) → j < length ps → held (set ps j (get_or ps j [] ++ p ∷ [])) ≡ held ps + 1
+held_more [] j p h = absurd (omega arith)
+held_more (q ∷ ps) zero p h = grind (arith, common_steps)
+held_more (q ∷ ps) (suc j) p h = grind (arith, common_steps, held_more ps j p)
 
-  pub below_first : (n : ℕ) (q : List (Waiting C)) (x : Waiting C) → Below n q → first_out₀ weight q ≡ Some x → x.row < n
-  below_first n [] x b e = cc
-  below_first n (y ∷ q) x b e = grind (arith, below_first n q)
+-- a list that is put anew where it stands
+pub set_last : (ps : List (List ℕ)) (q r : List ℕ) (n : ℕ) → n ≡ length ps → set (ps ++ q ∷ []) n r ≡ ps ++ r ∷ []
+set_last [] q r n e = grind (arith, common_steps)
+set_last (x ∷ ps) q r zero e = cc
+set_last (x ∷ ps) q r (suc n) e = grind (arith, common_steps, set_last ps q r n)
 
-module _ {C : Type 0} where
-  pub below_more : (n m : ℕ) (q : List (Waiting C)) → n ≤ m → Below n q → Below m q
-  below_more n m [] l b = tt
-  below_more n m (x ∷ q) l b = grind (arith, below_more n m q)
+-- rows below a number are below a greater one
+pub below_more : (n m : ℕ) (js : List ℕ) → n ≤ m → Below n js → Below m js
+below_more n m [] l b = tt
+below_more n m (j ∷ js) l b = grind (arith, below_more n m js)
 
-  pub below_without : (n j : ℕ) (q : List (Waiting C)) → Below n q → Below n (without₀ j q)
-  below_without n j [] b = tt
-  below_without n j (x ∷ q) b = grind (arith, below_without n j q)
+pub below_push : (n : ℕ) (js : List ℕ) (j : ℕ) → Below n js → j < n → Below n (js ++ j ∷ [])
+below_push n [] j b h = (h, tt)
+below_push n (i ∷ js) j b h = (b.0, below_push n js j b.1 h)
 
-  pub below_push : (n : ℕ) (q : List (Waiting C)) (x : Waiting C) → Below n q → x.row < n → Below n (q ++ x ∷ [])
-  below_push n [] x b h = grind arith
-  below_push n (y ∷ q) x b h = grind (arith, below_push n q)
+pub all_more : (n m : ℕ) (ps : List (List ℕ)) → n ≤ m → AllByRecursion (Below n) ps → AllByRecursion (Below m) ps
+all_more n m [] l b = tt
+all_more n m (p ∷ ps) l b = (below_more n m p l b.0, all_more n m ps l b.1)
 
-module _ {N C : Type 0} where
-  pub parents_more : (n m : ℕ) (l : List (N × Reached C)) → n ≤ m → Parents n l → Parents m l
-  parents_more n m [] h b = tt
-  parents_more n m (x ∷ l) h b = grind (arith, parents_more n m l)
+pub all_push : (n : ℕ) (ps : List (List ℕ)) (p : List ℕ) → AllByRecursion (Below n) ps → Below n p → AllByRecursion (Below n) (ps ++ p ∷ [])
+all_push n [] p b h = (h, tt)
+all_push n (q ∷ ps) p b h = (b.0, all_push n ps p b.1 h)
 
-  pub parents_push : (n : ℕ) (l : List (N × Reached C)) (x : N × Reached C) → Parents n l → x.1.parent < n → Parents n (l ++ x ∷ [])
-  parents_push n [] x b h = (h, tt)
-  parents_push n (y ∷ l) x b h = (b.0, parents_push n l x b.1 h)
+pub all_set : (n : ℕ) (ps : List (List ℕ)) (j : ℕ) (p : List ℕ) → AllByRecursion (Below n) ps → Below n p → AllByRecursion (Below n) (set ps j p)
+all_set n [] j p b h = tt
+all_set n (q ∷ ps) zero p b h = (h, b.1)
+all_set n (q ∷ ps) (suc j) p b h = (b.0, all_set n ps j p b.1 h)
 
-  pub parents_set : (n : ℕ) (l : List (N × Reached C)) (j : ℕ) (x : N × Reached C) → Parents n l → x.1.parent < n → Parents n (set l j x)
-  parents_set n [] j x b h = tt
-  parents_set n (y ∷ l) zero x b h = (h, b.1)
-  parents_set n (y ∷ l) (suc j) x b h = (b.0, parents_set n l j x b.1 h)
-
-  pub parents_at : (n : ℕ) (l : List (N × Reached C)) (k : ℕ) (v : Reached C) → k < length l → ((d : N × Reached C) → v ≡ (get_or l k d).1) → Parents n l → v.parent < n
-  parents_at n l k v h e b = let d = some_of l k h in rw (e d) (All-from_recursion (λ x. x.1.parent < n) l b k d h)
+pub all_at : (n : ℕ) (ps : List (List ℕ)) (j : ℕ) → AllByRecursion (Below n) ps → Below n (get_or ps j [])
+all_at n [] j b = tt
+all_at n (q ∷ ps) zero b = b.0
+all_at n (q ∷ ps) (suc j) b = all_at n ps j b.1
 
 -- what the steps of a search need of the lists
-pub ruleset lists = (find_rows, number_below, number_key, without_entries, first_entries, below_first, below_more, below_without, below_push, parents_more, parents_push, parents_set, map-append, map-set, length-map, length-append, length-set, ltb-true)
+pub ruleset lists = (find_rows, length_rows, number_below, number_key, length-append, length-set, ltb-true)

@@ -1,6 +1,10 @@
 pub mod Standing
-pub mod Views
-pub mod Good
-pub mod Making
+pub mod Opens
+pub mod Entries
+pub mod TwoQueues
+pub mod Turns
+pub mod Bags
 pub mod Pending
-pub mod Handing
+pub mod Making
+pub mod Paths
+pub mod Wider

@@ -1,22 +1,36 @@
-// A planner over lent rows and links: it finds cheapest routes and hands them out.
+//! A planner over lent memory: it finds cheapest routes by five searches and hands them out.
 #![tactic(auto)]
 
 mod astar;
-mod begin;
+mod astar_bag;
+mod bag;
+mod best;
 mod dijkstra;
-pub mod frontier;
+mod estimates;
+mod found;
+mod fringe;
+mod goal;
+mod guided;
 mod hand_out;
+mod idastar;
+mod kinds_of_waiting;
+pub mod lent;
 pub mod make;
+mod open;
+mod passes;
+mod path;
 pub mod planner_type;
+mod ready;
 pub mod refusal;
-mod relax;
+mod roads;
 mod seek;
-mod trace;
-mod turns;
+mod settle;
 pub mod twice;
+mod two_queues;
+mod waits;
 
-pub use frontier::Reached;
-pub use make::{Lent, check};
+pub use lent::{Lent, Sizes};
+pub use make::{MOST_LINKS, MOST_ROWS, check};
 pub use planner_type::Planner;
 pub use refusal::MakeRefusal;
 pub use twice::{TwoSeeks, plan_twice};

@@ -1,54 +1,71 @@
-// The making of a planner: in two calls, of which one checks and one makes, or in one.
-ghost use Rattle.std.specs.Prelude.{◌≡◌, true, false, [], if◌then◌else◌, Ok, Err, MatchResult};
+// The making of a planner, in two calls: one checks counts, and one makes.
+ghost use Rattle.std.specs.Prelude.{◌≡◌, true, [], if◌then◌else◌, Ok, Err};
 ghost use Rattle.search.specs.History.{History, Law};
 ghost use Rattle.planner.specs.declared.refusal.MakeRefusal.TheVariants.{Counts};
-ghost use Rattle.planner.specs.Making.{sizes_fit, fit, made_in};
+ghost use Rattle.planner.specs.Making.{even, fit, made_in};
 
-use crate::frontier::{Frontier, Reached};
+use crate::found::Found;
+use crate::lent::{Lent, Sizes};
 use crate::planner_type::Planner;
 use crate::refusal::MakeRefusal;
+use crate::two_queues::TwoQueues;
+use deepening::Tries;
 use kinds::{CostKind, NodeKind};
-use std::marker::Model;
-use store::links::{Link, Links};
-use store::rows::Row;
-use store::slots::Slot;
+use listing::sinks::Sinks;
+use store::heap::Heap;
 
-// Memory that is lent to a planner: rows, a slot for each, and links. Rows and slots are two slices, since the register borrows the
-// one and the heap the other for as long as the planner lives. Contracts see it as how much it is.
-#[derive(Drop)]
-pub struct Lent<'a, N, C> {
-    pub rows: &'a mut [Row<N, Reached<C>>],
-    pub slots: &'a mut [Slot<C>],
-    pub links: &'a mut [Link],
-}
+/// The most rows that a planner is made over.
+pub const MOST_ROWS: usize = 32768;
 
-impl<'a, N, C> Model for Lent<'a, N, C> {
-    ghost use Rattle.std.specs.Prelude.{length};
-    ghost use Rattle.planner.specs.Making.{Sizes};
+/// The most links that a planner is made over.
+pub const MOST_LINKS: usize = 65535;
 
-    ghost Value = { Sizes };
-
-    ghost view = { λ l. record { rows = length l.rows.now; slots = length l.slots.now; links = length l.links.now } };
-}
-
-// The most rows and links that a planner is made over.
-const MOST_ROWS: usize = 32768;
-
-const MOST_LINKS: usize = 65535;
-
-// Whether a planner can be made over so many rows, slots for them, and links: counts, for a caller who has no memory yet.
-pub fn check(rows: usize, slots: usize, links: usize) -> Result<(), MakeRefusal>
-    ensures { result ≡ (if sizes_fit rows slots links then Ok tt else Err Counts) }
+// Whether there are as many entries of each other part as there are rows.
+fn even(sizes: Sizes) -> bool
+    ensures { result ≡ even sizes }
 {
-    if !(1..=MOST_ROWS).contains(&rows) || slots != rows || links > MOST_LINKS {
+    let Sizes {
+        rows,
+        slots,
+        heads,
+        only,
+        sinks,
+        neighbours,
+        tried,
+        ..
+    } = sizes;
+    slots == rows
+        && heads == rows
+        && only == rows
+        && sinks == rows
+        && neighbours == rows
+        && tried == rows
+}
+
+/// Whether a planner can be made over so much memory: counts alone, for a caller who has no memory yet. No memory is touched.
+///
+/// # Errors
+///
+/// `MakeRefusal::Counts` where the rows are not 1 to 32,768, or the links more than 65,535, or a part has not as many entries as
+/// there are rows.
+///
+/// # Examples
+///
+/// ```ignore
+/// check(Sizes::of(512, 2000))?;
+/// ```
+pub fn check(sizes: Sizes) -> Result<(), MakeRefusal>
+    ensures { result ≡ (if fit sizes then Ok tt else Err Counts) }
+{
+    if !(1..=MOST_ROWS).contains(&sizes.rows) || sizes.links > MOST_LINKS || !even(sizes) {
         return Err(MakeRefusal::Counts);
     }
     Ok(())
 }
 
 impl<'a, N: NodeKind, C: CostKind> Planner<'a, N, C> {
-    // A planner over this memory, with nothing to hand out. What the memory holds beforehand does not matter. With it a
-    // history begins, and the law holds of every history.
+    /// A planner over this memory, with nothing to hand out. What the memory holds beforehand does not matter. With it a
+    /// history begins, and the law holds of every history.
     #[tactic(auto, using(std::proofs::lemmas::Bool::Decides::nat_tests, search::proofs::Histories::histories_fair, search::specs::History::made))]
     pub fn make(lent: Lent<'a, N, C>) -> Planner<'a, N, C>
         requires { fit lent ≡ true }
@@ -57,19 +74,11 @@ impl<'a, N: NodeKind, C: CostKind> Planner<'a, N, C> {
         ensures held { result ≡ made_in lent.entry }
     {
         Planner {
-            frontier: Frontier::over(lent.rows, lent.slots),
-            sink: None,
-            links: Links::new(lent.links),
+            found: Found::over(lent.rows, lent.heads, lent.only, lent.links),
+            sinks: Sinks::new(lent.sinks),
+            heap: Heap::new(lent.slots),
+            queues: TwoQueues::over(lent.neighbours),
+            tries: Tries::new(lent.tried),
         }
-    }
-
-    // The same, where a planner can be made over this memory.
-    #[tactic(auto, using(search::proofs::Histories::histories_fair))]
-    pub fn new(lent: Lent<'a, N, C>) -> Result<Planner<'a, N, C>, MakeRefusal>
-        ensures law { Law C.kind }
-        ensures made { MatchResult result (λ p. (fit lent.entry ≡ true) × History C.kind [] p × (p ≡ made_in lent.entry)) (λ e. (fit lent.entry ≡ false) × (e ≡ Counts)) }
-    {
-        check(lent.rows.len(), lent.slots.len(), lent.links.len())?;
-        Ok(Planner::make(lent))
     }
 }

@@ -1,13 +1,15 @@
 // Two searches over two graphs by one planner, which shows that the contracts of the calls make a history.
+ghost use Rattle.graph.specs.Means.{means};
 ghost use Rattle.std.specs.Prelude.{◌≡◌, false, [], ◌∷◌, length, MatchResult};
-ghost use Rattle.search.specs.Answers.{dijkstra, astar};
+ghost use Rattle.search.specs.declared.method.Method.TheVariants.{Dijkstra, Astar};
 ghost use Rattle.search.specs.Calls.{sought, handed_out};
 ghost use Rattle.search.specs.History.{Whole};
 ghost use Rattle.planner.specs.Making.{fit};
 ghost use Rattle.planner.specs.Pending.{answer_of};
-ghost use Rattle.planner.specs.Handing.{given_of};
+ghost use Rattle.listing.specs.Handing.{given_of};
 
-use crate::make::Lent;
+use crate::lent::Lent;
+use crate::make::check;
 use crate::planner_type::Planner;
 use crate::refusal::MakeRefusal;
 use graph::Graph;
@@ -38,9 +40,10 @@ pub fn plan_twice<
     out: &mut [N],
     again: &mut [N],
 ) -> Result<TwoSeeks<C>, MakeRefusal>
-    ensures { MatchResult result (λ t. Whole C.kind (sought dijkstra (G.means graph.now) (G.guesses graph.now) (N.key start) (answer_of C.weight t.first) ∷ handed_out (length out.old) (given_of N.key t.given out.new) ∷ sought astar (H.means other.now) (H.guesses other.now) (N.key start) (answer_of C.weight t.second) ∷ handed_out (length again.old) (given_of N.key t.given_again again.new) ∷ [])) (λ _. fit lent.entry ≡ false) }
+    ensures { MatchResult result (λ t. Whole C.kind (sought Dijkstra (means G.Graph graph.now) (G.guesses graph.now) (N.key start) (answer_of C.weight t.first) ∷ handed_out (length out.old) (given_of N.key t.given out.new) ∷ sought Astar (means H.Graph other.now) (H.guesses other.now) (N.key start) (answer_of C.weight t.second) ∷ handed_out (length again.old) (given_of N.key t.given_again again.new) ∷ [])) (λ _. fit lent.entry ≡ false) }
 {
-    let mut planner = Planner::new(lent)?;
+    check(lent.sizes())?;
+    let mut planner = Planner::make(lent);
     let first = planner.dijkstra(graph, start);
     let given = planner.hand_out(out);
     let second = planner.astar(other, start);

@@ -1,4 +1,1 @@
-pub mod Names
-pub mod Stock
-pub mod Routes
-pub mod Priced
+pub mod Wanted

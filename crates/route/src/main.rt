@@ -4,7 +4,8 @@
 #![tactic(auto)]
 
 use anyhow::bail;
-use report::{LINKS, Method, ROWS};
+use report::{LINKS, ROWS};
+use search::Method;
 use std::env;
 use std::io::Read;
 
@@ -12,8 +13,10 @@ fn main(rt: HostRuntime) -> anyhow::Result<()> {
     let mut methods = Vec::new(rt.alloc());
     for name in env::args(&rt)?.skip(1) {
         let Ok(method) = name.as_str().parse::<Method>() else {
-            let [first, last] = Method::ALL;
-            eprintln!(rt; "route: no search is called {name}: there are {first} and {last}")?;
+            let [a, b, c, d, last] = Method::ALL;
+            eprintln!(rt;
+                "route: no search is called {name}: there are {a}, {b}, {c}, {d} and {last}"
+            )?;
             bail!("an argument names no search");
         };
         methods.push(method)?;

@@ -1,69 +1,74 @@
--- The walk back through the parents of a goal is a route, and weighs no more than the goal's row costs.
-use Rattle.std.proofs.Common.{◌≡◌, ℕ, zero, suc, ◌+◌, ◌<◌, ◌≤◌, true, false, eqb, List, [], ◌∷◌, length, refl, arith}
+-- A chain of rows is a path from the start that weighs no more than its row costs; it has no row twice.
+use Rattle.std.proofs.Common.{◌≡◌, ℕ, suc, ◌+◌, ◌<◌, ◌≤◌, true, false, eqb, List, [], ◌∷◌, length, refl, arith}
 use Rattle.std.specs.List.{AllByRecursion, IsDistinct, list_any}
 use Rattle.std.proofs.lemmas.Grind.{common_steps}
 use Rattle.std.proofs.lemmas.Map.Steps.{length-le_from_distinct_below}
-use Rattle.graph.specs.Meaning.{Meaning, Lawful}
-use Rattle.graph.specs.Routes.{Weighs}
-use Rattle.search.specs.Rows.{Row, no_row, walk}
+use Rattle.std.proofs.lemmas.Option.{slice_get_within}
+use Rattle.graph.specs.Meaning.{Meaning}
+use Rattle.search.specs.Roads.{Keeps, one, all}
+use Rattle.search.specs.Rows.{Row}
 use Rattle.search.proofs.Places.{At}
-use Rattle.std.proofs.lemmas.Option.{slice_get_within, get_or_from_slice_get}
-use Rattle.search.proofs.Paths.{Path, weigh}
+use Rattle.search.proofs.Paths.{Path}
 use Rattle.search.proofs.Invariant.{Tree, Parent, Chain, root, up, row_of}
 
--- the rows of a chain, this one first
-indices : {rows : List Row} {i : ℕ} → Chain rows i → List ℕ
+unfoldable pub indices : {rows : List Row} {i : ℕ} → Chain rows i → List ℕ
 indices root = 0 ∷ []
-indices (up {i = i} r a c) = suc i ∷ indices c
+indices (up {i = i} r a j h c) = suc i ∷ indices c
 
--- the walk along a chain gives a path that ends as the one in hand, and is no heavier than the row's cost and that
-walked : (M : Meaning) (start : ℕ) (rows : List Row) → Tree M start rows
-    → {i : ℕ} (c : Chain rows i) (n : ℕ) → length (indices c) ≤ n → (r : Row) → At rows i r → (acc : List ℕ) (v : ℕ) → Path M r.key (r.key ∷ acc) v
-    → (w : ℕ) × Path M start (walk n rows i acc) w × (w ≤ r.cost + v)
-unfolding walk indices
-walked M start rows tree root zero l r a acc v p = absurd (omega arith)
-walked M start rows tree root (suc n) l r a acc v p =
-    let z : r ≡ row_of start 0 0 = cc in
-    (v, rw (get_or_from_slice_get rows 0 (row_of start 0 0) no_row tree.root) (rw z at p), omega arith)
-walked M start rows tree (up q b c) zero l r a acc v p = absurd (omega arith)
-walked M start rows tree (up {i = i} q b c) (suc n) l r a acc v p =
-    let f : Parent M rows q = tree.parents i q b in
+-- the keys along a chain, before others
+unfoldable pub keys : {rows : List Row} {i : ℕ} → (start : ℕ) → Chain rows i → List ℕ → List ℕ
+keys start root acc = start ∷ acc
+keys start (up r a j h c) acc = keys start c (r.key ∷ acc)
+
+module _ {keeps : Keeps} (M : Meaning) (start : ℕ) (rows : List Row) (tree : Tree keeps M start rows) where
+  pub walk : {i : ℕ} (c : Chain rows i) (r : Row) → At rows i r → (acc : List ℕ) (v : ℕ) → Path M r.key (r.key ∷ acc) v → (w : ℕ) × Path M start (keys start c acc) w × (w ≤ r.cost + v)
+  unfolding keys
+  walk root r a acc v p = let t = tree.root in let z : r ≡ row_of start 0 [] = cc in (v, rw z at p, omega arith)
+  walk (up {i = i} q b j h c) r a acc v p =
+      let f : Parent keeps M rows q j = tree.parents i q b j h in
+      let z : r ≡ q = cc in
+      let o = walk c f.row f.there (q.key ∷ acc) (f.weight + v) (Path.goes f.rank (tree.held j f.row f.there) f.road (rw z at p)) in
+      (o.0, o.1, grind (arith, o.2, f.within))
+
+-- ---- a chain has no row twice, and so is no longer than the rows
+-- each row but the start has one parent
+abbrev pub Lone : List Row → Type 0
+Lone rows = (i : ℕ) (r : Row) → At rows (suc i) r → (j : ℕ) × (r.parents ≡ j ∷ [])
+
+pub same : {rows : List Row} → Lone rows → {i j : ℕ} (c : Chain rows i) (d : Chain rows j) → i ≡ j → indices c ≡ indices d
+unfolding indices
+same lone root root e = refl
+same lone root (up r a k h d) e = absurd (omega arith)
+same lone (up r a k h c) root e = absurd (omega arith)
+same lone (up {i = i} r a k h c) (up {i = m} q b l g d) e =
     let z : r ≡ q = cc in
-    let on = Path.goes f.rank (tree.held q.parent f.row f.there) f.road (rw z at p) in
-    let rest = walked M start rows tree c n (omega arith) f.row f.there _ _ on in
-    (rest.0, rw (get_or_from_slice_get rows (suc i) q no_row b) rest.1, grind (arith, f.within))
+    let o = lone i r a in
+    let y : k ≡ l = grind (arith, o.1, h, g) in
+    cc (same lone c d y)
 
--- a chain is settled by where it begins
-same : {rows : List Row} {i j : ℕ} (c : Chain rows i) (d : Chain rows j) → i ≡ j → indices c ≡ indices d
+apart_lone : {rows : List Row} → Lone rows → {i k : ℕ} (c : Chain rows i) (d : Chain rows k) → length (indices c) < length (indices d) → AllByRecursion (λ y. eqb k y ≡ false) (indices c)
 unfolding indices
-same root root e = refl
-same root (up r a d) e = absurd (omega arith)
-same (up r a c) root e = absurd (omega arith)
-same (up r a c) (up q b d) e = let z : r ≡ q = cc in cc (same c d (cc))
+apart_lone lone {k = k} root d l = (grind (arith, same lone d root), tt)
+apart_lone lone {k = k} (up {i = i} r a j h c) d l = (grind (arith, same lone d (up r a j h c)), apart_lone lone c d (omega arith))
 
--- a chain does not meet the index of a longer one
-apart : {rows : List Row} {i k : ℕ} (c : Chain rows i) (d : Chain rows k) → length (indices c) < length (indices d) → AllByRecursion (λ y. eqb k y ≡ false) (indices c)
+-- where all roads weigh something, the rows of a chain cost less and less
+apart_all : {M : Meaning} {start : ℕ} {rows : List Row} → Tree all M start rows → {i : ℕ} (k : ℕ) (c : Chain rows i) (r q : Row) → At rows i r → At rows k q → r.cost < q.cost → AllByRecursion (λ y. eqb k y ≡ false) (indices c)
 unfolding indices
-apart {k = k} root d l = (grind (arith, same d root), tt)
-apart {k = k} (up {i = i} r a c) d l = (grind (arith, same d (up r a c)), apart c d (omega arith))
+apart_all tree k root r q a b l = (grind arith, tt)
+apart_all tree k (up {i = i} p u j h c) r q a b l =
+    let f = tree.parents i p u j h in
+    (grind arith, apart_all tree k c f.row q f.there b (grind (arith, f.within)))
 
-chain_distinct : {rows : List Row} {i : ℕ} (c : Chain rows i) → IsDistinct eqb (indices c)
+distinct_indices : (keeps : Keeps) {M : Meaning} {start : ℕ} {rows : List Row} → Tree keeps M start rows → {i : ℕ} (c : Chain rows i) → IsDistinct eqb (indices c)
 unfolding indices IsDistinct
-chain_distinct root = (tt, tt)
-chain_distinct (up r a c) = (apart c (up r a c) (omega arith), chain_distinct c)
+distinct_indices keeps tree root = (tt, tt)
+distinct_indices one tree (up r a j h c) = (apart_lone tree.kin c (up r a j h c) (omega arith), distinct_indices one tree c)
+distinct_indices all tree (up {i = i} r a j h c) = let f = tree.parents i r a j h in (apart_all tree (suc i) c f.row r f.there a (omega (arith, f.within, f.some refl)), distinct_indices all tree c)
 
 in_rows : {rows : List Row} {i : ℕ} (c : Chain rows i) → 0 < length rows → (k : ℕ) → list_any (eqb k) (indices c) ≡ true → k < length rows
 unfolding indices
 in_rows root z k h = grind (arith, common_steps)
-in_rows (up r a c) z k h = grind (arith, common_steps, in_rows c z k, slice_get_within)
+in_rows (up r a j b c) z k h = grind (arith, common_steps, in_rows c z k, slice_get_within)
 
--- the keys from the start to the row of a goal are a route
-pub goal_route : (M : Meaning) (guess : ℕ → ℕ) → Lawful M guess → (start : ℕ) (rows : List Row) → Tree M start rows
-    → (j : ℕ) (r : Row) → At rows j r → M.goal r.key ≡ true → (w : ℕ) × Weighs M start (walk (length rows) rows j []) w × (w ≤ r.cost)
-goal_route M guess law start rows tree j r a g =
-    let c : Chain rows j = tree.chained j r a in
-    -- it is no longer than there are rows
-    let short = length-le_from_distinct_below (indices c) (length rows) (chain_distinct c) (in_rows c (slice_get_within rows 0 _ tree.root)) in
-    let p = walked M start rows tree c (length rows) short r a [] 0 (Path.ends (tree.held j r a) g) in
-    let v = weigh M guess law p.1 in
-    (v.0, v.1, omega (arith, p.2, v.2))
+pub short : (keeps : Keeps) {M : Meaning} {start : ℕ} {rows : List Row} → Tree keeps M start rows → {i : ℕ} (c : Chain rows i) → length (indices c) ≤ length rows
+short keeps {rows = rows} tree c = length-le_from_distinct_below (indices c) (length rows) (distinct_indices keeps tree c) (in_rows c (slice_get_within rows 0 _ tree.root))

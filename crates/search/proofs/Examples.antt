@@ -1,53 +1,77 @@
 -- The worked examples, by computation.
-use Rattle.std.proofs.Common.{[], ◌∷◌, refl, arith}
+use Rattle.std.proofs.Common.{refl, arith}
 use Rattle.std.proofs.lemmas.Grind.{common_steps}
 use Rattle.kinds.specs.Millis.{millis_kind}
-use Rattle.search.specs.Rows.{walk}
-use Rattle.search.specs.Machine.{pushed, fresh, known, arrive, summed, relax, along, taken, turn, last, next}
-use Rattle.search.specs.Outcome.{found}
-use Rattle.search.specs.Answers.{dijkstra, astar, Answers}
+use Rattle.graph.specs.Meaning.{IsLawful}
+use Rattle.graph.specs.Pile.{bare}
+use Rattle.search.specs.Laws.{Founded}
+use Rattle.search.specs.Ends.{last, next}
+use Rattle.search.specs.Rows.{routes_by}
+use Rattle.search.specs.Roads.{relax, along}
+use Rattle.search.specs.Best as best
+use Rattle.search.specs.Bag as bag
+use Rattle.search.specs.Fringe as fringe
+use Rattle.search.specs.Deepening as deepening
 use Rattle.search.specs.History.{made, after}
-use Rattle.search.specs.Worked.{rows, diamond, no_guess, detour, detour_guess, TwoSeeks, Worked}
+use Rattle.search.specs.Worked.{rows_and_links, diamond, no_guess, ThreeSeeks, Worked}
 use Rattle.search.proofs.Histories.{whole}
 
-diamond_dijkstra : Answers dijkstra millis_kind diamond no_guess (rows 512) 0 (found 2 ((0 ∷ 1 ∷ 3 ∷ []) ∷ []))
-unfolding turn taken along relax summed arrive known fresh pushed walk
-diamond_dijkstra = next refl (next refl (next refl (last refl)))
-
-detour_astar : Answers astar millis_kind detour detour_guess (rows 512) 0 (found 6 ((0 ∷ 2 ∷ 1 ∷ 3 ∷ []) ∷ []))
-unfolding turn taken along relax summed arrive known fresh pushed walk
-detour_astar = next refl (next refl (next refl (next refl (last refl))))
-
--- a history of a planner of 512 rows
-two_seeks : TwoSeeks
-two_seeks =
+-- a history of a planner of 512 rows and four links
+three_seeks : ThreeSeeks
+unfolding routes_by relax along best.taken best.best bag.taken bag.bag
+three_seeks =
     whole millis_kind _ _
-    (after (after (after (after (after (after (after (made (rows 512))
+    (after (after (after (after (after (after (after (after (after (after (after (after (made (rows_and_links 512 4))
     _ _ (record { gives = refl; leaves = refl }))
-    _ _ (record { outcome = _; comes = diamond_dijkstra; answers = refl; leaves = refl }))
+    _ _ (record { outcome = _; comes = next refl (next refl (next refl (last refl))); answers = refl; leaves = refl }))
     _ _ (record { gives = refl; leaves = refl }))
     _ _ (record { gives = refl; leaves = refl }))
     _ _ (record { gives = refl; leaves = refl }))
-    _ _ (record { outcome = _; comes = detour_astar; answers = refl; leaves = refl }))
+    _ _ (record { outcome = _; comes = next refl (next refl (next refl (next refl (last refl)))); answers = refl; leaves = refl }))
     _ _ (record { gives = refl; leaves = refl }))
+    _ _ (record { outcome = _; comes = next refl (next refl (next refl (next refl (last refl)))); answers = refl; leaves = refl }))
+    _ _ (record { gives = refl; leaves = refl }))
+    _ _ (record { gives = refl; leaves = refl }))
+    _ _ (record { gives = refl; leaves = refl }))
+    _ _ (record { gives = refl; leaves = refl }))
+
+diamond_lawful : IsLawful diamond no_guess
+diamond_lawful = grind (arith, common_steps)
+
+diamond_founded : Founded millis_kind diamond no_guess
+diamond_founded = record { bottom = diamond; bottom_guess = no_guess; pile = bare; truth = λ k ks w h r. omega arith }
 
 pub worked : Worked
-unfolding turn taken along relax summed arrive known fresh pushed walk
+unfolding routes_by relax along best.taken best.best bag.taken bag.bag fringe.passed fringe.within fringe.limited fringe.summed fringe.fringe deepening.tries deepening.try_each deepening.deeper deepening.pass
 worked =
     record {
-      diamond_dijkstra = diamond_dijkstra;
+      diamond_dijkstra = next refl (next refl (next refl (last refl)));
       diamond_astar = next refl (next refl (next refl (last refl)));
+      diamond_astar_bag = next refl (next refl (next refl (next refl (last refl))));
+      diamond_fringe = next refl (next refl (next refl (next refl (next refl (next refl (next refl (next refl (last refl))))))));
+      diamond_idastar = next refl (next refl (last refl));
       diamond_full = next refl (last refl);
-      detour_astar = detour_astar;
+      diamond_path = next refl (next refl (last refl));
+      diamond_linked = next refl (next refl (next refl (next refl (last refl))));
+      diamond_unlinked = next refl (next refl (last refl));
+      detour_astar = next refl (next refl (next refl (next refl (last refl))));
       high_guess_astar = next refl (last refl);
+      high_guess_idastar = next refl (last refl);
       greatest_dijkstra = next refl (last refl);
       above_greatest_dijkstra = next refl (last refl);
+      above_greatest_idastar = next refl (last refl);
       zero_astar = next refl (last refl);
+      zero_astar_bag = last refl;
       trims_dijkstra = next refl (next refl (last refl));
       trims_astar = next refl (next refl (last refl));
       alone_dijkstra = last refl;
       alone_astar = last refl;
-      diamond_lawful = grind (arith, common_steps);
+      alone_idastar = last refl;
+      start_row_idastar = last refl;
+      order_idastar = next refl (next refl (next refl (last refl)));
+      faulty_idastar = last refl;
+      diamond_lawful = diamond_lawful;
       detour_lawful = grind (arith, common_steps);
-      two_seeks = two_seeks;
+      three_seeks = three_seeks;
+      diamond_all = (three_seeks.seeks.1.1.0 diamond_lawful).gives_all refl diamond_founded (λ r. cc);
     }

@@ -1,6 +1,9 @@
 -- The hand-outs of a seek: those up to the next seek that are not refused.
-use Rattle.std.specs.Prelude.{◌≡◌, ℕ, List, [], ◌∷◌, Some, None, Option}
+use Rattle.std.specs.Prelude.{◌≡◌, ◌↔◌, ℕ, List, [], ◌∷◌, ◌++◌, Some, None, Option}
 use Rattle.std.specs.List.{AllByRecursion}
+use Rattle.graph.specs.Meaning.{Meaning}
+use Rattle.graph.specs.Routes.{Lightest}
+use Rattle.search.specs.Members.{In, Distinct}
 use Rattle.search.specs.Calls.{gave, finished, denied, Event, sought, handed_out}
 
 -- what a hand-out that is not refused comes to: the keys that it gives, or nothing where it answers finished
@@ -36,3 +39,14 @@ abbrev pub Deals : List (List ℕ) → List Out → Type 0
 Deals rs [] = Unit {0}
 Deals [] (o ∷ os) = (o ≡ None) × Deals [] os
 Deals (r ∷ rs) (o ∷ os) = (o ≡ Some r) × Deals rs os
+
+-- every lightest route from the start is one of these
+abbrev pub HasAll : Meaning → (start : ℕ) → List (List ℕ) → Type 0
+HasAll M start rs = (ks : List ℕ) → Lightest M start ks → In ks rs
+
+-- they give lightest routes from the start, none twice, and answer finished exactly when every one has been given
+pub record GiveAll (M : Meaning) (start : ℕ) (os : List Out) : Type 0 where
+  pub lightest : AllByRecursion (Lightest M start) (given os)
+  pub once : Distinct (given os)
+  pub finished : (before : List Out) (o : Out) (after : List Out)
+      → os ≡ before ++ o ∷ after → (o ≡ None) ↔ HasAll M start (given before)

@@ -1,17 +1,24 @@
 -- Worked examples of the searches, and of a history.
-use Rattle.std.specs.Prelude.{ℕ, ◌+◌, cond, List, [], ◌∷◌, Some, length, ◌==◌, nat_lt, slice_index_or}
+use Rattle.std.specs.Prelude.{ℕ, ◌+◌, cond, List, [], ◌∷◌, Some, None, length, ◌==◌, nat_lt, slice_index_or}
 use Rattle.kinds.specs.Millis.{millis_kind}
 use Rattle.kinds.specs.Trims.{trims_kind, weight_of}
-use Rattle.graph.specs.Meaning.{Meaning, Road, opened, closed, Lawful}
-use Rattle.search.specs.declared.refusal.SeekRefusal.TheVariants.{NoSum, NoRow}
+use Rattle.graph.specs.Meaning.{Meaning, Road, opened, closed, faulty, IsLawful}
+use Rattle.search.specs.declared.refusal.SeekRefusal.TheVariants.{FaultyRoad, ZeroWeight, NoSum, NoRow, NoLink}
 use Rattle.search.specs.declared.refusal.HandOutRefusal.TheVariants.{Short}
-use Rattle.search.specs.Outcome.{stopped, found}
-use Rattle.search.specs.Answers.{dijkstra, astar, Capacity, Answers}
+use Rattle.search.specs.Outcome.{Outcome, stopped, found}
+use Rattle.search.specs.declared.method.Method.{Method}
+use Rattle.search.specs.declared.method.Method.TheVariants.{Dijkstra, Astar, AstarBag, Fringe, Idastar}
+use Rattle.search.specs.Capacity.{Capacity}
+use Rattle.search.specs.Answers.{Answers}
 use Rattle.search.specs.Calls.{sought, handed_out, costs, gave, finished, denied}
+use Rattle.search.specs.Outs.{GiveAll}
 use Rattle.search.specs.History.{Whole}
 
+abbrev pub rows_and_links : (rows links : ℕ) → Capacity
+rows_and_links rows links = record { rows = rows; links = links }
+
 abbrev pub rows : ℕ → Capacity
-rows n = record { rows = n; links = 0 }
+rows n = rows_and_links n 0
 
 -- stations from 0, each with its roads; the last is the goal
 abbrev pub stations : List (List Road) → Meaning
@@ -82,41 +89,81 @@ trims_roads = (opened 2 (weight_of 1 10) ∷ opened 1 (weight_of 0 4500) ∷ [])
 abbrev pub trims : Meaning
 trims = stations trims_roads
 
--- two seeks over two graphs on one planner, with hand-outs: a history, with what the law says of it
-abbrev pub TwoSeeks : Type 0
-TwoSeeks =
+-- 0 → 0 of nothing, 0 → 1 of 2, 0 → 2 of 1, 1 → 3 of 1 and 2 → 3 of 2
+abbrev pub back_road : Meaning
+back_road = stations ((opened 0 0 ∷ opened 1 2 ∷ opened 2 1 ∷ []) ∷ (opened 3 1 ∷ []) ∷ (opened 3 2 ∷ []) ∷ [] ∷ [])
+
+-- 0 → 1 of nothing, and a road that cannot be answered
+abbrev pub faulty_road : Meaning
+faulty_road = stations ((opened 1 0 ∷ faulty (record { rank = 1; depth = 0 }) ∷ []) ∷ [] ∷ [])
+
+-- three seeks over two graphs on one planner, with hand-outs: a history, with what the law says of it
+abbrev pub ThreeSeeks : Type 0
+ThreeSeeks =
     Whole millis_kind
     (handed_out 9 finished
-    ∷ sought dijkstra diamond no_guess 0 (costs 2)
+    ∷ sought Dijkstra diamond no_guess 0 (costs 2)
     ∷ handed_out 2 (denied (Short 3))
     ∷ handed_out 3 (gave (0 ∷ 1 ∷ 3 ∷ []))
     ∷ handed_out 9 finished
-    ∷ sought astar detour detour_guess 0 (costs 6)
+    ∷ sought Astar detour detour_guess 0 (costs 6)
     ∷ handed_out 9 (gave (0 ∷ 2 ∷ 1 ∷ 3 ∷ []))
+    ∷ sought AstarBag diamond no_guess 0 (costs 2)
+    ∷ handed_out 9 (gave (0 ∷ 2 ∷ 3 ∷ []))
+    ∷ handed_out 2 (denied (Short 3))
+    ∷ handed_out 9 (gave (0 ∷ 1 ∷ 3 ∷ []))
+    ∷ handed_out 9 finished
     ∷ [])
 
+-- what a search from station 0 comes to, where costs are milliseconds
+abbrev pub InMillis : Method → Meaning → (guess : ℕ → ℕ) → Capacity → Outcome → Type 0
+InMillis m M guess cap o = Answers m millis_kind M guess cap 0 o
+
 pub record Worked : Type 0 where
-  -- of the two routes over the diamond, the one found first
-  pub diamond_dijkstra : Answers dijkstra millis_kind diamond no_guess (rows 512) 0 (found 2 ((0 ∷ 1 ∷ 3 ∷ []) ∷ []))
-  pub diamond_astar : Answers astar millis_kind diamond no_guess (rows 512) 0 (found 2 ((0 ∷ 1 ∷ 3 ∷ []) ∷ []))
-  -- of three rows none is left for the goal
-  pub diamond_full : Answers astar millis_kind diamond no_guess (rows 3) 0 (stopped (NoRow 1 0))
+  -- of the two routes over the diamond, the one found first or last, or both
+  pub diamond_dijkstra : InMillis Dijkstra diamond no_guess (rows 512) (found 2 ((0 ∷ 1 ∷ 3 ∷ []) ∷ []))
+  pub diamond_astar : InMillis Astar diamond no_guess (rows 512) (found 2 ((0 ∷ 1 ∷ 3 ∷ []) ∷ []))
+  pub diamond_astar_bag :
+      InMillis AstarBag diamond no_guess (rows_and_links 512 2000) (found 2 ((0 ∷ 2 ∷ 3 ∷ []) ∷ (0 ∷ 1 ∷ 3 ∷ []) ∷ []))
+  pub diamond_fringe : InMillis Fringe diamond no_guess (rows 512) (found 2 ((0 ∷ 2 ∷ 3 ∷ []) ∷ []))
+  pub diamond_idastar : InMillis Idastar diamond no_guess (rows 512) (found 2 ((0 ∷ 1 ∷ 3 ∷ []) ∷ []))
+  -- of three rows none is left for the goal, where a row is kept for each node that was found; the path has three nodes
+  pub diamond_full : InMillis Astar diamond no_guess (rows 3) (stopped (NoRow 1 0))
+  pub diamond_path : InMillis Idastar diamond no_guess (rows 3) (found 2 ((0 ∷ 1 ∷ 3 ∷ []) ∷ []))
+  -- the rows of the diamond have four parents together
+  pub diamond_linked :
+      InMillis AstarBag diamond no_guess (rows_and_links 512 4) (found 2 ((0 ∷ 2 ∷ 3 ∷ []) ∷ (0 ∷ 1 ∷ 3 ∷ []) ∷ []))
+  pub diamond_unlinked : InMillis AstarBag diamond no_guess (rows_and_links 512 3) (stopped (NoLink 2 0))
   -- a row whose roads were followed is taken up again when it is reached at less
-  pub detour_astar : Answers astar millis_kind detour detour_guess (rows 512) 0 (found 6 ((0 ∷ 2 ∷ 1 ∷ 3 ∷ []) ∷ []))
+  pub detour_astar : InMillis Astar detour detour_guess (rows 512) (found 6 ((0 ∷ 2 ∷ 1 ∷ 3 ∷ []) ∷ []))
   -- the answer is the cost, and not the estimate
-  pub high_guess_astar : Answers astar millis_kind (one_road 2) high_guess (rows 512) 0 (found 2 ((0 ∷ 1 ∷ []) ∷ []))
+  pub high_guess_astar : InMillis Astar (one_road 2) high_guess (rows 512) (found 2 ((0 ∷ 1 ∷ []) ∷ []))
+  pub high_guess_idastar : InMillis Idastar (one_road 2) high_guess (rows 512) (found 2 ((0 ∷ 1 ∷ []) ∷ []))
   -- a cost may be the greatest, and a sum above it is refused
-  pub greatest_dijkstra : Answers dijkstra millis_kind (greatest_to 1) no_guess (rows 512) 0 (found 4294967295 ((0 ∷ 1 ∷ []) ∷ []))
-  pub above_greatest_dijkstra : Answers dijkstra millis_kind (greatest_to 2) no_guess (rows 512) 0 (stopped (NoSum 1 (Some 0)))
-  -- a road may weigh nothing
-  pub zero_astar : Answers astar millis_kind (one_road 0) no_guess (rows 512) 0 (found 0 ((0 ∷ 1 ∷ []) ∷ []))
+  pub greatest_dijkstra : InMillis Dijkstra (greatest_to 1) no_guess (rows 512) (found 4294967295 ((0 ∷ 1 ∷ []) ∷ []))
+  pub above_greatest_dijkstra : InMillis Dijkstra (greatest_to 2) no_guess (rows 512) (stopped (NoSum 1 (Some 0)))
+  pub above_greatest_idastar : InMillis Idastar (greatest_to 2) no_guess (rows 512) (stopped (NoSum 1 (Some 0)))
+  -- a road may weigh nothing, but by astar_bag
+  pub zero_astar : InMillis Astar (one_road 0) no_guess (rows 512) (found 0 ((0 ∷ 1 ∷ []) ∷ []))
+  pub zero_astar_bag : InMillis AstarBag (one_road 0) no_guess (rows_and_links 512 9) (stopped (ZeroWeight 0 0))
   -- two roads without a trim are lighter than one road with one
-  pub trims_dijkstra : Answers dijkstra trims_kind trims no_guess (rows 512) 0 (found (weight_of 0 9000) ((0 ∷ 1 ∷ 2 ∷ []) ∷ []))
-  pub trims_astar : Answers astar trims_kind trims no_guess (rows 512) 0 (found (weight_of 0 9000) ((0 ∷ 1 ∷ 2 ∷ []) ∷ []))
+  pub trims_dijkstra :
+      Answers Dijkstra trims_kind trims no_guess (rows 512) 0 (found (weight_of 0 9000) ((0 ∷ 1 ∷ 2 ∷ []) ∷ []))
+  pub trims_astar :
+      Answers Astar trims_kind trims no_guess (rows 512) 0 (found (weight_of 0 9000) ((0 ∷ 1 ∷ 2 ∷ []) ∷ []))
   -- a start that is a goal is a route
-  pub alone_dijkstra : Answers dijkstra millis_kind alone no_guess (rows 512) 0 (found 0 ((0 ∷ []) ∷ []))
-  pub alone_astar : Answers astar millis_kind alone no_guess (rows 512) 0 (found 0 ((0 ∷ []) ∷ []))
+  pub alone_dijkstra : InMillis Dijkstra alone no_guess (rows 512) (found 0 ((0 ∷ []) ∷ []))
+  pub alone_astar : InMillis Astar alone no_guess (rows 512) (found 0 ((0 ∷ []) ∷ []))
+  pub alone_idastar : InMillis Idastar alone no_guess (rows 1) (found 0 ((0 ∷ []) ∷ []))
+  -- by idastar the start has a row; the least sum with the guess is tried first, and a road back to the path is skipped;
+  -- and roads are checked along the ranks, before any is tried
+  pub start_row_idastar : InMillis Idastar diamond no_guess (rows 1) (stopped (NoRow 0 0))
+  pub order_idastar : InMillis Idastar back_road no_guess (rows 512) (found 3 ((0 ∷ 2 ∷ 3 ∷ []) ∷ []))
+  pub faulty_idastar :
+      InMillis Idastar faulty_road no_guess (rows 512) (stopped (FaultyRoad 0 (record { rank = 1; depth = 0 })))
   -- the diamond and the detour are lawful
-  pub diamond_lawful : Lawful diamond no_guess
-  pub detour_lawful : Lawful detour detour_guess
-  pub two_seeks : TwoSeeks
+  pub diamond_lawful : IsLawful diamond no_guess
+  pub detour_lawful : IsLawful detour detour_guess
+  pub three_seeks : ThreeSeeks
+  -- what is handed out of both routes over the diamond gives all lightest ones
+  pub diamond_all : GiveAll diamond 0 (Some (0 ∷ 2 ∷ 3 ∷ []) ∷ Some (0 ∷ 1 ∷ 3 ∷ []) ∷ None ∷ [])

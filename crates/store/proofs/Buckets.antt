@@ -1,12 +1,13 @@
 -- The hash chains of a register: a look-up meets every row of its bucket, and a new row or value keeps them.
 use Rattle.std.proofs.Common.{◌≡◌, ℕ, zero, suc, ◌+◌, ◌%◌, ◌<◌, ◌≤◌, false, eqb, List, [], ◌∷◌, ◌++◌, map, length, get_or, take, set, Some, None, sym, refl, ◌∙◌, ⊎_elim, arith}
 use Rattle.std.proofs.lemmas.List.{get_or_default, length-set, take_more, map-append, map-set, same_lists}
+use Rattle.std.proofs.Math.Nat.{mod-eq_of_lt}
 use Rattle.std.proofs.Math.Seq.{take-set-lt}
 use Rattle.std.proofs.lemmas.Bool.{cases_eq, eqb-false}
 use Rattle.std.proofs.lemmas.Grind.{common_steps}
 use Rattle.store.specs.declared.rows.Row.{Row}
-use Rattle.store.specs.Rows.{bucket, Linked, Single, known, valued, found, number_of}
-use Rattle.store.specs.Registers.{Kept}
+use Rattle.store.specs.Rows.{bucket, IsLinked, IsSingle, known, valued, found, number_of}
+use Rattle.store.specs.Registers.{IsRegister}
 use Rattle.store.proofs.Fronts.{length_front, read_front}
 
 pub length_found : {N V : Type 0} (xs : List (Row N V)) (n : ℕ) → n ≤ length xs → length (found xs n) ≡ n
@@ -43,7 +44,7 @@ module _ {N V : Type 0} {xs zs : List (Row N V)} {n b : ℕ} {node : N} {value :
   bucket_new : (d : Row N V) → m node % length xs ≡ b → bucket m zs d n ≡ b
   bucket_new d e = let q = g.node_here d in cc
 
-  pub linked_grown : m node % length xs ≡ b → ((d : Row N V) → next ≡ (get_or xs b d).head) → Linked m xs n → Linked m zs (n + 1)
+  pub linked_grown : m node % length xs ≡ b → ((d : Row N V) → next ≡ (get_or xs b d).head) → IsLinked m xs n → IsLinked m zs (n + 1)
   linked_grown e en l = record {
     heads = λ r d lr.
         ⊎_elim
@@ -70,7 +71,7 @@ module _ {N V : Type 0} {xs zs : List (Row N V)} {n b : ℕ} {node : N} {value :
   }
 
 module _ {N V : Type 0} {xs zs : List (Row N V)} {n b : ℕ} {node : N} {value : V} {next : ℕ} (g : Grown xs zs n b node value next) where
-  pub single_grown : (key : N → ℕ) → Single key xs n → ((k : ℕ) (d : Row N V) → k < n → key (get_or xs k d).node ≡ key node → ⊥) → Single key zs (n + 1)
+  pub single_grown : (key : N → ℕ) → IsSingle key xs n → ((k : ℕ) (d : Row N V) → k < n → key (get_or xs k d).node ≡ key node → ⊥) → IsSingle key zs (n + 1)
   single_grown key s fresh j k d lj lk e =
       let i = s j k d in
       let fj = fresh j d in
@@ -95,8 +96,11 @@ module _ {N V : Type 0} {xs zs : List (Row N V)} {n b : ℕ} {node : N} {value :
       let vh = g.value_here d in
       grind (arith, map-append)
 
+pub small_rem : (a b : ℕ) → a < b → a % b ≡ a
+small_rem a b l = mod-eq_of_lt l
+
 -- where row r has another key, no row of the key lies later than the next of r
-pub from_next : {N V : Type 0} (key m : N → ℕ) → ((x y : N) → key x ≡ key y → m x ≡ m y) → {xs : List (Row N V)} {n : ℕ} → Linked m xs n → n ≤ length xs → (node : N) (r k : ℕ) (d d₁ d₂ : Row N V) → r < n → eqb (key (get_or xs r d₂).node) (key node) ≡ false → key (get_or xs k d).node ≡ key node → bucket m xs d r ≡ m node % length xs → k ≤ r → ((get_or xs r d₁).next < r) × (bucket m xs d (get_or xs r d₁).next ≡ m node % length xs) × (k ≤ (get_or xs r d₁).next)
+pub from_next : {N V : Type 0} (key m : N → ℕ) → ((x y : N) → key x ≡ key y → m x ≡ m y) → {xs : List (Row N V)} {n : ℕ} → IsLinked m xs n → n ≤ length xs → (node : N) (r k : ℕ) (d d₁ d₂ : Row N V) → r < n → eqb (key (get_or xs r d₂).node) (key node) ≡ false → key (get_or xs k d).node ≡ key node → bucket m xs d r ≡ m node % length xs → k ≤ r → ((get_or xs r d₁).next < r) × (bucket m xs d (get_or xs r d₁).next ≡ m node % length xs) × (k ≤ (get_or xs r d₁).next)
 from_next key m alike {xs} {n} l ln node r k d d₁ d₂ lr t e er le =
     let a = alike (get_or xs k d).node node e in
     let p = get_or_default xs r d d₂ (omega arith) in
@@ -113,7 +117,7 @@ number_none key (x ∷ xs) (suc n) q ln h =
     let r = number_none key xs n q (omega arith) (λ k d lk. h (suc k) d (omega arith)) in
     grind arith
 
-pub number_some : {N V : Type 0} (key : N → ℕ) (xs : List (Row N V)) (n q p : ℕ) → n ≤ length xs → Single key xs n → p < n → ((d : Row N V) → key (get_or xs p d).node ≡ q) → number_of key q (found xs n) ≡ Some p
+pub number_some : {N V : Type 0} (key : N → ℕ) (xs : List (Row N V)) (n q p : ℕ) → n ≤ length xs → IsSingle key xs n → p < n → ((d : Row N V) → key (get_or xs p d).node ≡ q) → number_of key q (found xs n) ≡ Some p
 unfolding found
 number_some key [] n q p ln s lp e = absurd (omega arith)
 number_some key (x ∷ xs) zero q p ln s lp e = absurd (omega arith)
@@ -124,7 +128,7 @@ number_some key (x ∷ xs) (suc n) q (suc p) ln s lp e =
     let r = number_some key xs n q p (omega arith) (λ j k d lj lk r. let z = s (suc j) (suc k) d (omega arith) (omega arith) r in omega arith) (omega arith) e in
     grind arith
 
-pub fresh_from : {N V : Type 0} (key : N → ℕ) (xs : List (Row N V)) (n q : ℕ) → n ≤ length xs → Single key xs n → number_of key q (found xs n) ≡ None → (k : ℕ) (d : Row N V) → k < n → key (get_or xs k d).node ≡ q → ⊥
+pub fresh_from : {N V : Type 0} (key : N → ℕ) (xs : List (Row N V)) (n q : ℕ) → n ≤ length xs → IsSingle key xs n → number_of key q (found xs n) ≡ None → (k : ℕ) (d : Row N V) → k < n → key (get_or xs k d).node ≡ q → ⊥
 fresh_from key xs n q ln s none k d lk e =
     let some = number_some key xs n q k ln s lk (λ d'. let o = get_or_default xs k d' d (omega arith) in cc) in
     cc
@@ -137,7 +141,7 @@ module _ {N V : Type 0} (xs : List (Row N V)) (i : ℕ) (v : V) (d₁ : Row N V)
   same_but_value : i < length xs → (k : ℕ) (d : Row N V) → ((get_or zs k d).node ≡ (get_or xs k d).node) × ((get_or zs k d).next ≡ (get_or xs k d).next) × ((get_or zs k d).head ≡ (get_or xs k d).head) × (length zs ≡ length xs)
   same_but_value li k d = grind (arith, common_steps)
 
-  pub kept_valued : {key marks : N → ℕ} {n : ℕ} → i < n → Kept key marks xs n → Kept key marks zs n
+  pub kept_valued : {key marks : N → ℕ} {n : ℕ} → i < n → IsRegister key marks xs n → IsRegister key marks zs n
   kept_valued {key} {marks} {n} l k =
       let li : i < length xs = omega arith in
       let bucket_same : (k : ℕ) (d : Row N V) → bucket marks zs d k ≡ bucket marks xs d k = λ k d. let s = same_but_value li k d in cc in

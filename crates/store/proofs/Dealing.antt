@@ -8,7 +8,7 @@ use Rattle.std.proofs.lemmas.Map.Keys.{IsDistinct-from_apart, apart_from_distinc
 use Rattle.std.specs.List.{filter}
 use Rattle.store.specs.declared.slots.Entry.{Entry}
 use Rattle.store.specs.declared.slots.Slot.{Slot}
-use Rattle.store.specs.Slots.{entry_at, entry_of, place_of, entries, Apart, Heaped, Sound, SlotsKept}
+use Rattle.store.specs.Slots.{entry_at, entry_of, place_of, entries, IsApart, IsHeap, IsSound, IsSeating}
 use Rattle.store.specs.Queue.{waiting, by_push, queue}
 use Rattle.store.specs.Deal.{dealt, earlier, all_dealt, numbered}
 use Rattle.store.proofs.Fronts.{length_front}
@@ -49,8 +49,8 @@ module _ {C : Type 0} where
         let r : get_or (map place_of ys) k d.place ≡ get_or (map place_of (take n xs)) k d.place = cc in
         grind (arith, common_steps)
 
-    pub dealt_stands : SlotsKept xs n → SlotsKept (ys ++ drop n xs) n
-    dealt_stands k =
+    pub dealt_kept : IsSeating xs n → IsSeating (ys ++ drop n xs) n
+    dealt_kept k =
         let l = long in
         let all : length (ys ++ drop n xs) ≡ length xs = grind (arith, common_steps) in
         record {
@@ -67,7 +67,7 @@ module _ {C : Type 0} where
     abbrev pub anew : ℕ → ℕ
     anew p = earlier p es
 
-    pub dealt_sound : (w : C → ℕ) → Apart es → Heaped w es → Sound w (all_dealt es) (length es)
+    pub dealt_sound : (w : C → ℕ) → IsApart es → IsHeap w es → IsSound w (all_dealt es) (length es)
     dealt_sound w a h = record {
       apart = IsDistinct-from_apart (λ (x y : Entry C). eqb x.push y.push) (all_dealt es)
           (λ i j d lt lj'.

@@ -5,7 +5,7 @@ use Rattle.std.specs.List.{Contains}
 use Rattle.store.specs.declared.slots.Entry.{Entry}
 use Rattle.store.specs.Queue.{among, by_push}
 use Rattle.store.specs.Deal.{dealt, earlier}
-use Rattle.store.proofs.Queues.{here, there, here_or_there, mem_by_push_to}
+use Rattle.store.proofs.Queues.{here, there, here_or_there, Contains-from_by_push}
 
 pub earlier_le : {C : Type 0} (a b : ℕ) (l : List (Entry C)) → a ≤ b → earlier a l ≤ earlier b l
 earlier_le a b [] le = omega arith
@@ -42,4 +42,4 @@ pub by_push_dealt : {C : Type 0} (f : ℕ → ℕ) (l : List (Entry C)) → Keep
 by_push_dealt f [] k = refl
 by_push_dealt f (x ∷ xs) k =
     ap (among (dealt f x)) (by_push_dealt f xs (λ a b ma mb. k a b (there x xs a ma) (there x xs b mb)))
-    ∙ among_dealt f x (by_push xs) (λ y m. let m' = there x xs y (mem_by_push_to y xs m) in let h = here x xs in (k x y h m', k y x m' h))
+    ∙ among_dealt f x (by_push xs) (λ y m. let m' = there x xs y (Contains-from_by_push y xs m) in let h = here x xs in (k x y h m', k y x m' h))

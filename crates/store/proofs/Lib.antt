@@ -1,8 +1,10 @@
 pub mod Fronts
 pub mod Seats
 pub mod Sifts
+pub mod Holes
 pub mod Queues
 pub mod Turns
 pub mod Buckets
 pub mod Deals
 pub mod Dealing
+pub mod Backs

@@ -8,7 +8,7 @@ use Rattle.std.proofs.lemmas.Map.Keys.{IsDistinct-from_apart}
 use Rattle.std.proofs.lemmas.Grind.{common_steps}
 use Rattle.store.specs.declared.slots.Entry.{Entry}
 use Rattle.store.specs.declared.slots.Slot.{Slot}
-use Rattle.store.specs.Slots.{entry_at, entry_of, entries, Placed, Seated}
+use Rattle.store.specs.Slots.{entry_at, entry_of, entries, IsPlaced, Seated}
 use Rattle.store.proofs.Fronts.{length_front, read_front}
 
 pub length_entries : {C : Type 0} (xs : List (Slot C)) (n : ℕ) → n ≤ length xs → length (entries xs n) ≡ n
@@ -21,7 +21,7 @@ pub entries_less : {C : Type 0} (xs : List (Slot C)) (m n : ℕ) → m ≤ n →
 entries_less xs m n l = ap (map entry_of) (sym (take-take m n xs l)) ∙ sym (take-map entry_of m (take n xs))
 
 -- the slot of a row has the place of its entry
-pub place_is : {C : Type 0} (xs : List (Slot C)) (n r k : ℕ) (d : Entry C) (d₀ : Slot C) → n ≤ length xs → Placed xs n → k < n → (get_or (entries xs n) k d).row ≡ r → (get_or xs r d₀).place ≡ k
+pub place_is : {C : Type 0} (xs : List (Slot C)) (n r k : ℕ) (d : Entry C) (d₀ : Slot C) → n ≤ length xs → IsPlaced xs n → k < n → (get_or (entries xs n) k d).row ≡ r → (get_or xs r d₀).place ≡ k
 place_is xs n r k d d₀ ln p lk q = let e = entries_at xs n k d₀ d ln lk in let o = p k d₀ lk in grind arith
 
 -- a slot with another entry, and with another place
@@ -38,19 +38,7 @@ at_any xs i d₁ l d = grind (arith, get_or_default)
 pub seated : {C : Type 0} (xs : List (Slot C)) (i : ℕ) (e : Entry C) (d₁ d₂ : Slot C) → i < length xs → e.row < length xs → Seated xs (set (set xs i (holding (get_or xs i d₁) e)) e.row (placed (get_or (set xs i (holding (get_or xs i d₁) e)) e.row d₂) i)) i e
 seated xs i e d₁ d₂ lt ltr = grind (arith, common_steps)
 
-pub exchanged_placed : {C : Type 0} (xs ys zs : List (Slot C)) (i j : ℕ) (a b : Entry C) → (i ≡ j → ⊥) → ((d : Slot C) → a ≡ entry_at xs d i) → ((d : Slot C) → b ≡ entry_at xs d j) → Seated xs ys i b → Seated ys zs j a → (n : ℕ) → i < n → j < n → Placed xs n → Placed zs n
-exchanged_placed xs ys zs i j a b ne ha hb s t n li lj p k d lk =
-    let pi = p i d li in
-    let pj = p j d lj in
-    let pk = p k d lk in
-    let ai = ha d in
-    let bj = hb d in
-    ⊎_elim
-    (λ (q : k ≡ j). grind arith)
-    (λ nj. ⊎_elim (λ (q : k ≡ i). grind arith) (λ ni. grind arith) (cases_eq k i))
-    (cases_eq k j)
-
--- a write over an entry, and after the last
+-- a write over an entry
 module _ {C : Type 0} (xs ys : List (Slot C)) (e : Entry C) where
   pub entries_over : (n i : ℕ) → n ≤ length xs → i < n → Seated xs ys i e → entries ys n ≡ set (entries xs n) i e
   entries_over n i ln li s =
@@ -61,26 +49,8 @@ module _ {C : Type 0} (xs ys : List (Slot C)) (e : Entry C) where
       let o = s.others k t in
       grind (arith, common_steps))
 
-  pub entries_next : (n : ℕ) → n < length xs → Seated xs ys n e → entries ys (n + 1) ≡ entries xs n ++ e ∷ []
-  entries_next n ln s =
-      same_lists (entries ys (n + 1)) (entries xs n ++ e ∷ []) (grind (arith, common_steps))
-      (λ k d lk.
-      let t : Slot C = record { entry = d; place = 0; order = 0 } in
-      let h = s.here t in
-      let o = s.others k t in
-      grind (arith, common_steps))
-
--- the entries at i and j change places
-pub entries_swapped : {C : Type 0} (xs ys zs : List (Slot C)) (n i j : ℕ) (d₁ d₂ : Slot C) → n ≤ length xs → i < n → j < n → Seated xs ys i (entry_at xs d₂ j) → Seated ys zs j (entry_at xs d₁ i) → entries zs n ≡ swap (entries xs n) i j
-entries_swapped xs ys zs n i j d₁ d₂ ln li lj s t =
-    let l = length_entries xs n ln in
-    let a = entries_over xs ys (entry_at xs d₂ j) n i ln li s in
-    let b = entries_over ys zs (entry_at xs d₁ i) n j (omega (arith, s.long)) lj t in
-    let w = swap_is (entries xs n) i j (entry_at xs d₁ i) (omega arith) (omega arith) in
-    cc (entries_at xs n j d₂ (entry_at xs d₁ i) ln lj, entries_at xs n i d₁ (entry_at xs d₁ i) ln li)
-
 -- no two entries are of one row
-pub rows_differ : {C : Type 0} (xs : List (Slot C)) (n : ℕ) → n ≤ length xs → Placed xs n → IsDistinct (λ a b. eqb a.row b.row) (entries xs n)
+pub rows_differ : {C : Type 0} (xs : List (Slot C)) (n : ℕ) → n ≤ length xs → IsPlaced xs n → IsDistinct (λ a b. eqb a.row b.row) (entries xs n)
 rows_differ {C} xs n ln p =
     IsDistinct-from_apart (λ (a b : Entry C). eqb a.row b.row) (entries xs n)
     (λ i j d lt lj.
@@ -89,15 +59,3 @@ rows_differ {C} xs n ln p =
     let a = place_is xs n (get_or (entries xs n) i d).row i d s ln p (omega arith) in
     let b = place_is xs n (get_or (entries xs n) j d).row j d s ln p (omega arith) in
     grind (arith, common_steps))
-
--- a write over the entry of its own row
-pub over_placed : {C : Type 0} (xs ys : List (Slot C)) (n i : ℕ) (e : Entry C) → i < n → e.row < length xs → Placed xs n → ((d : Slot C) → (entry_at xs d i).row ≡ e.row) → Seated xs ys i e → Placed ys n
-over_placed xs ys n i e li lr p own s k d lk = grind (arith, p i d, p k d, own d)
-
--- after the last, of a row that has no entry
-pub next_placed : {C : Type 0} (xs ys : List (Slot C)) (n : ℕ) (e : Entry C) → e.row < length xs → Placed xs n → ((k : ℕ) (d : Slot C) → k < n → (entry_at xs d k).row ≡ e.row → ⊥) → Seated xs ys n e → Placed ys (n + 1)
-next_placed xs ys n e lr p fresh s k d lk = grind (arith, p k d, fresh k d)
-
--- the last entry over the first
-pub top_placed : {C : Type 0} (xs ys : List (Slot C)) (m : ℕ) (d₁ : Slot C) → Placed xs (m + 1) → m < length xs → Seated xs ys 0 (entry_at xs d₁ m) → Placed ys m
-top_placed xs ys m d₁ p lm s k d lk = let q = get_or_default xs m d₁ d lm in grind (arith, p k d, p m d)

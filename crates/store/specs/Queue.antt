@@ -1,6 +1,6 @@
 -- What waits in a heap, as a list in the order of the pushes. The crate `search` defines the same of its own entries: neither knows
 -- the other.
-use Rattle.std.specs.Prelude.{ℕ, Bool, cond, not, ◌&&◌, ◌||◌, List, [], ◌∷◌, ◌++◌, map, Some, None, Option, ◌==◌, nat_lt}
+use Rattle.std.specs.Prelude.{ℕ, Bool, cond, not, ◌&&◌, ◌||◌, List, [], ◌∷◌, ◌++◌, map, Some, None, Option, option_map, ◌==◌, nat_lt}
 use Rattle.std.specs.List.{filter}
 use Rattle.store.specs.declared.slots.Entry.{Entry}
 use Rattle.store.specs.declared.slots.Waiting.{Waiting}
@@ -47,3 +47,10 @@ first_out w (x ∷ xs) = sooner w x (first_out w xs)
 abbrev pub left : {C : Type 0} → Option (Waiting C) → List (Waiting C) → List (Waiting C)
 left None q = q
 left (Some x) q = without x.row q
+
+-- what a push of an entry leaves, and what is left once an entry is taken out
+abbrev pub queue_after : {C : Type 0} → Entry C → List (Waiting C) → List (Waiting C)
+queue_after e q = pushed q e.row e.estimate e.cost
+
+abbrev pub queue_without : {C : Type 0} → Option (Entry C) → List (Waiting C) → List (Waiting C)
+queue_without e q = left (option_map waiting e) q

@@ -1,5 +1,6 @@
 // A binary heap with at most one entry for a row: a list of what waits, in the order of the pushes.
-ghost use Rattle.std.specs.Prelude.{◌≡◌, ◌+◌, ◌<◌, ◌≤◌, [], length, Some, MatchOption, IfSome};
+ghost use Rattle.std.specs.Prelude.{◌≡◌, ◌<◌, ◌≤◌, ◌==◌, [], length, IfSome};
+ghost use Rattle.store.specs.Heaps.{greatest_count, next_after, LosesOne};
 ghost use Rattle.store.specs.Queue.{pushed, first_out, left};
 
 use crate::places::Places;
@@ -16,21 +17,29 @@ pub struct Heap<'a, C: CostKind> {
 }
 
 impl<'a, C: CostKind> Model for Heap<'a, C> {
-    ghost use Rattle.store.specs.Slots.{Sound};
+    ghost use Rattle.store.specs.Slots.{IsSound};
     ghost use Rattle.store.specs.Queue.{queue};
     ghost use Rattle.store.specs.Heaps.{Waits};
 
     ghost Value = { Waits C };
 
-    ghost view = { λ h. record { waits = queue h.places.entries; rows = h.places.rows; next = h.count } };
+    ghost view = { λ h. record { slots = h.places.slots; waits = queue h.places.entries; rows = h.places.rows; next = h.count } };
 
-    ghost invariant = { λ h. Sound C.weight h.places.entries h.count };
+    ghost invariant = { λ h. IsSound C.weight h.places.entries h.count };
+}
+
+// Whether no push can have this number, since none comes after it.
+fn is_spent(count: u64) -> bool
+    ensures { result ≡ (count == greatest_count) }
+{
+    count == u64::MAX
 }
 
 impl<'a, C: CostKind> Heap<'a, C> {
-    // A heap with no entry.
+    // A heap with no entry; the slots that are lent are not written to.
     pub fn new(slots: &'a mut [Slot<C>]) -> Heap<'a, C>
         requires { length slots.old ≤ 65536 }
+        ensures slots { result.slots ≡ slots.old }
         ensures empty { result.waits ≡ [] }
         ensures rows { result.rows ≡ length slots.old }
         ensures next { result.next ≡ 0 }
@@ -43,6 +52,7 @@ impl<'a, C: CostKind> Heap<'a, C> {
     #[tactic(auto, using(crate::proofs::Turns::apart_none), unfolding(crate::specs::Queue::queue))]
     pub fn counting_from(slots: &'a mut [Slot<C>], count: u64) -> Heap<'a, C>
         requires { length slots.old ≤ 65536 }
+        ensures slots { result.slots ≡ slots.old }
         ensures empty { result.waits ≡ [] }
         ensures rows { result.rows ≡ length slots.old }
         ensures next { result.next ≡ count }
@@ -56,6 +66,7 @@ impl<'a, C: CostKind> Heap<'a, C> {
     // Takes every entry out, in constant time.
     #[tactic(auto, using(crate::proofs::Turns::apart_none), unfolding(crate::specs::Queue::queue))]
     pub fn clear(&mut self)
+        ensures slots { self.new.slots ≡ self.old.slots }
         ensures empty { self.new.waits ≡ [] }
         ensures rows { self.new.rows ≡ self.old.rows }
         ensures next { self.new.next ≡ 0 }
@@ -69,8 +80,9 @@ impl<'a, C: CostKind> Heap<'a, C> {
         requires { row < self.old.rows }
         ensures waits { self.new.waits ≡ pushed self.old.waits row estimate cost }
         ensures rows { self.new.rows ≡ self.old.rows }
+        ensures next { self.new.next ≡ next_after self.old.next (length self.old.waits) }
     {
-        if self.count == u64::MAX {
+        if is_spent(self.count) {
             self.count = self.places.deal();
         }
         self.places.put(Entry {
@@ -85,7 +97,7 @@ impl<'a, C: CostKind> Heap<'a, C> {
     // Takes out the entry that comes first.
     #[tactic(auto, using(crate::proofs::Turns::length_queue))]
     pub fn pop(&mut self) -> Option<Waiting<C>>
-        ensures size { MatchOption result (length self.new.waits ≡ 0) (λ _. length self.new.waits + 1 ≡ length self.old.waits) }
+        ensures size { LosesOne result self.old.waits self.new.waits }
         ensures first { result ≡ first_out C.weight self.old.waits }
         ensures waits { self.new.waits ≡ left result self.old.waits }
         ensures inside { IfSome result (λ w. w.row < self.old.rows) }

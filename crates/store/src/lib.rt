@@ -4,8 +4,9 @@
 mod chains;
 mod deal;
 pub mod heap;
-pub mod links;
 mod places;
 pub mod register;
 pub mod rows;
 pub mod slots;
+#[cfg(test)]
+mod tests;

@@ -1,8 +1,9 @@
 // A register numbers nodes from 0 as they are found: a list of nodes and their values in the order of finding.
-ghost use Rattle.std.specs.Prelude.{◌≡◌, ◌+◌, ◌<◌, ◌≤◌, [], ◌∷◌, ◌++◌, length, if◌then◌else◌, Some, None, nat_lt};
+ghost use Rattle.std.specs.Prelude.{◌≡◌, ◌+◌, ◌-◌, ◌<◌, ◌≤◌, [], length, take, None};
 ghost use Rattle.store.specs.Rows.{number_of, At, Valued};
+ghost use Rattle.store.specs.Registers.{is_full, next_row, listed_with};
 
-use crate::chains::{insert, seek};
+use crate::chains::{insert, remove, seek};
 use crate::rows::Row;
 use kinds::NodeKind;
 use std::marker::Model;
@@ -18,20 +19,21 @@ pub struct Register<'a, N: NodeKind, V: Copy> {
 impl<'a, N: NodeKind, V: Copy> Model for Register<'a, N, V> {
     ghost use Rattle.std.specs.Prelude.{length};
     ghost use Rattle.store.specs.Rows.{found};
-    ghost use Rattle.store.specs.Registers.{Listing, Kept};
+    ghost use Rattle.store.specs.Registers.{Listing, IsRegister};
 
     ghost Value = { Listing N V };
 
-    ghost view = { λ r. record { listed = found r.rows.now r.len; room = length r.rows.now } };
+    ghost view = { λ r. record { rows = r.rows.now; listed = found r.rows.now r.len; room = length r.rows.now } };
 
-    ghost invariant = { λ r. Kept N.key N.marks r.rows.now r.len };
+    ghost invariant = { λ r. IsRegister N.key N.marks r.rows.now r.len };
 }
 
 impl<'a, N: NodeKind, V: Copy> Register<'a, N, V> {
-    // A register with no row.
+    // A register with no row; the rows that are lent are not written to.
     #[tactic(auto, unfolding(crate::specs::Rows::found))]
     pub fn new(rows: &'a mut [Row<N, V>]) -> Register<'a, N, V>
         requires { length rows.old ≤ 65536 }
+        ensures rows { result.rows ≡ rows.old }
         ensures empty { result.listed ≡ [] }
         ensures room { result.room ≡ length rows.old }
     {
@@ -41,6 +43,7 @@ impl<'a, N: NodeKind, V: Copy> Register<'a, N, V> {
     // Drops every row, in constant time.
     #[tactic(auto, unfolding(crate::specs::Rows::found))]
     pub fn clear(&mut self)
+        ensures rows { self.new.rows ≡ self.old.rows }
         ensures empty { self.new.listed ≡ [] }
         ensures room { self.new.room ≡ self.old.room }
     {
@@ -57,11 +60,19 @@ impl<'a, N: NodeKind, V: Copy> Register<'a, N, V> {
         self.len
     }
 
+    // Whether all rows are in use.
+    #[tactic(auto, unfolding(crate::specs::Rows::found))]
+    pub fn is_full(&self) -> bool
+        ensures { result ≡ is_full self.now }
+    {
+        self.len == self.rows.len()
+    }
+
     // The row of the node's key.
     pub fn find(&self, node: &N) -> Option<u16>
         ensures { result ≡ number_of N.key (N.key node.now) self.now.listed }
     {
-        let row = seek(self.rows, self.len, node)?;
+        let row = seek(self.rows, self.len, *node)?;
         Some(row as u16)
     }
 
@@ -69,8 +80,8 @@ impl<'a, N: NodeKind, V: Copy> Register<'a, N, V> {
     #[tactic(auto, unfolding(crate::specs::Rows::found))]
     pub fn add(&mut self, node: N, value: V) -> Option<u16>
         requires fresh { number_of N.key (N.key node) self.old.listed ≡ None }
-        ensures number { result ≡ (if nat_lt (length self.old.listed) self.old.room then Some (length self.old.listed) else None) }
-        ensures listed { self.new.listed ≡ (if nat_lt (length self.old.listed) self.old.room then self.old.listed ++ (node, value) ∷ [] else self.old.listed) }
+        ensures number { result ≡ next_row self.old }
+        ensures listed { self.new.listed ≡ listed_with self.old node value }
         ensures room { self.new.room ≡ self.old.room }
     {
         let row = self.len;
@@ -114,5 +125,16 @@ impl<'a, N: NodeKind, V: Copy> Register<'a, N, V> {
         let rows = &mut *self.rows;
         let row = &mut rows[row as usize];
         row.value = value;
+    }
+
+    // Takes the last row back.
+    #[tactic(auto, unfolding(crate::specs::Rows::found))]
+    pub fn take_back(&mut self)
+        requires { 0 < length self.old.listed }
+        ensures listed { self.new.listed ≡ take (length self.old.listed - 1) self.old.listed }
+        ensures room { self.new.room ≡ self.old.room }
+    {
+        self.len -= 1;
+        remove(self.rows, self.len);
     }
 }

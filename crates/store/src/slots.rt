@@ -1,6 +1,6 @@
 // What a heap keeps in each slot.
-ghost use Rattle.std.specs.Prelude.{◌≡◌, MatchBool};
-ghost use Rattle.store.specs.Slots.{Ahead};
+ghost use Rattle.std.specs.Prelude.{◌≡◌};
+ghost use Rattle.store.specs.Slots.{SaysAhead};
 
 use kinds::CostKind;
 
@@ -40,7 +40,7 @@ impl<C: CostKind> Entry<C> {
     // Whether it comes out before another; either answer is right where the two differ in nothing that counts. By hand, since one
     // of the three is ordered backwards, and a tuple with `Reverse` is no plainer.
     pub(crate) fn comes_before(&self, other: &Entry<C>) -> bool
-        ensures { MatchBool result (Ahead C.weight self.now other.now) (Ahead C.weight other.now self.now) }
+        ensures { SaysAhead C.weight self.now other.now result }
     {
         self.estimate
             .cmp(&other.estimate)

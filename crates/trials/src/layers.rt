@@ -1,9 +1,10 @@
 // Searches over a small field, under fences and tolls.
 use crate::steps::{Answer, desk_over};
-use field::{Field, Layout};
+use field::{Field, Layout, check};
 use graph::{Fence, Graph, Toll, only};
 use kinds::{Cell, CostKind, Millis};
-use report::{Memory, Method};
+use routes::Memory;
+use search::Method;
 
 const LEFT: Cell = Cell { column: 0, row: 0 };
 
@@ -14,10 +15,10 @@ fn seek<G: Graph<Node = Cell, Cost = Millis>>(
     graph: &G,
 ) -> anyhow::Result<()> {
     println!(rt; "{title}")?;
-    let mut memory = Memory::new(rt.alloc(), LEFT, 8, 1)?;
+    let mut memory = Memory::new(rt.alloc(), LEFT, 8, 8)?;
     let mut desk = desk_over(&mut memory)?;
     for method in Method::ALL {
-        let found = method.seek(&mut desk.planner, graph, LEFT);
+        let found = desk.planner.seek(method, graph, LEFT);
         let answer = Answer { found };
         println!(rt; " {answer}")?;
     }
@@ -55,11 +56,13 @@ pub fn layers(rt: &HostRuntime) -> anyhow::Result<()> {
         target: Cell { column: 2, row: 0 },
     };
     let map = [0u8, 7, 0];
-    piles(rt, Field::new(layout, &map)?)?;
+    check(layout, &map)?;
+    piles(rt, Field::make(layout, &map))?;
     let solid = [0u8, 7, 255];
+    check(layout, &solid)?;
     seek(
         rt,
         "with a target that is solid",
-        &Field::new(layout, &solid)?,
+        &Field::make(layout, &solid),
     )
 }

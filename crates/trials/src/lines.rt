@@ -1,6 +1,7 @@
 // The lines of the program `route`, for some of the searches and for bytes that are no chart.
 use crate::drawing::{Drawing, plain_road};
-use report::{LINKS, Method, ROWS, run};
+use report::{LINKS, ROWS, run};
+use search::Method;
 
 pub fn lines(rt: &HostRuntime) -> anyhow::Result<()> {
     let roads = [plain_road(0, 1, 2)];
@@ -8,7 +9,7 @@ pub fn lines(rt: &HostRuntime) -> anyhow::Result<()> {
     println!(rt; "searches by name")?;
     run(rt, &[Method::Dijkstra], bytes.as_slice(), ROWS, LINKS)?;
     run(rt, &[Method::Astar], bytes.as_slice(), ROWS, LINKS)?;
-    println!(rt; "both, in another order")?;
+    println!(rt; "two, in another order")?;
     run(
         rt,
         &[Method::Astar, Method::Dijkstra],

@@ -4,7 +4,7 @@ use crate::steps::{Answer, chart_in, desk_over};
 use chart::Chart;
 use kinds::{Station, Trims};
 use planner::Planner;
-use report::{Memory, Method, Route};
+use routes::{Memory, Route};
 use std::io;
 
 // What the outputs hold before anything is written: a station that the charts do not have.

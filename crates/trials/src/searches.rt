@@ -4,7 +4,8 @@ use crate::steps::{Answer, chart_in, desk_over};
 use chart::Chart;
 use kinds::{Station, Trims};
 use planner::Planner;
-use report::{Desk, Memory, Method, Route};
+use routes::{Desk, Memory, Route};
+use search::Method;
 use std::io;
 
 fn print_hand_out(
@@ -19,7 +20,7 @@ fn print_hand_out(
     }
 }
 
-// Seeks by each search, and hands out until nothing is left; after astar first where there is no room.
+// Seeks by each search, and hands out three times, which is more often than there are routes; after astar first where there is no room.
 fn seek(
     rt: &impl Print,
     desk: &mut Desk<Station, Trims>,
@@ -27,40 +28,47 @@ fn seek(
     start: Station,
 ) -> io::Result<()> {
     for method in Method::ALL {
-        let found = method.seek(&mut desk.planner, chart, start);
+        let found = desk.planner.seek(method, chart, start);
         let answer = Answer { found };
         println!(rt; " {method} {answer}")?;
         if method == Method::Astar {
             print_hand_out(rt, &mut desk.planner, &mut [])?;
         }
-        print_hand_out(rt, &mut desk.planner, desk.out)?;
-        print_hand_out(rt, &mut desk.planner, desk.out)?;
+        for _ in 0..3 {
+            print_hand_out(rt, &mut desk.planner, desk.out)?;
+        }
     }
     Ok(())
 }
 
-// A drawing to seek in, from a station, by a planner of so many rows.
+// A drawing to seek in, from a station, by a planner of so many rows and links.
 #[derive(Clone, Copy)]
 struct Trial<'a> {
     title: &'a str,
     drawing: Drawing<'a>,
     rows: usize,
+    links: usize,
     start: u32,
 }
 
 impl<'a> Trial<'a> {
-    // From station 0, with rows enough.
+    // From station 0, with rows and links enough.
     fn new(title: &'a str, drawing: Drawing<'a>) -> Trial<'a> {
         Trial {
             title,
             drawing,
             rows: 16,
+            links: 16,
             start: 0,
         }
     }
 
     fn with_rows(self, rows: usize) -> Trial<'a> {
         Trial { rows, ..self }
+    }
+
+    fn with_links(self, links: usize) -> Trial<'a> {
+        Trial { links, ..self }
     }
 
     fn starting_at(self, start: u32) -> Trial<'a> {
@@ -71,7 +79,7 @@ impl<'a> Trial<'a> {
         println!(rt; "{}", self.title)?;
         let bytes = self.drawing.bytes(rt.alloc())?;
         let chart = chart_in(bytes.as_slice())?;
-        let mut memory = Memory::new(rt.alloc(), Station { id: 0 }, self.rows, 0)?;
+        let mut memory = Memory::new(rt.alloc(), Station { id: 0 }, self.rows, self.links)?;
         let mut desk = desk_over(&mut memory)?;
         seek(rt, &mut desk, &chart, Station { id: self.start })?;
         Ok(())
@@ -89,6 +97,12 @@ fn diamonds(rt: &HostRuntime) -> anyhow::Result<()> {
     Trial::new("a diamond", diamond).show(rt)?;
     Trial::new("a diamond, with three rows", diamond)
         .with_rows(3)
+        .show(rt)?;
+    Trial::new("a diamond, with four links", diamond)
+        .with_links(4)
+        .show(rt)?;
+    Trial::new("a diamond, with three links", diamond)
+        .with_links(3)
         .show(rt)?;
     Trial::new("a diamond, from a station that is not there", diamond)
         .starting_at(4)

@@ -3,7 +3,9 @@ use crate::drawing::{Drawing, plain_road};
 use crate::steps::{chart_in, desk_over};
 use chart::Chart;
 use kinds::{Station, Trims};
-use report::{Desk, LINKS, Memory, Method, ROWS, Route};
+use report::{LINKS, ROWS};
+use routes::{Desk, Memory, Route};
+use search::Method;
 use std::{fs, io};
 
 // The pages that the process has in memory, as Linux tells them.
@@ -25,7 +27,7 @@ fn seeks(desk: &mut Desk<Station, Trims>, chart: &Chart, times: u32) -> usize {
         .zip(Method::ALL.into_iter().cycle())
         .filter(|&(turn, method)| {
             let start = Station { id: turn % 4 };
-            let _ = method.seek(&mut desk.planner, chart, start);
+            let _ = desk.planner.seek(method, chart, start);
             matches!(Route::next(&mut desk.planner, desk.out), Ok(Some(_)))
         })
         .count()

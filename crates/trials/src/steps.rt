@@ -3,12 +3,11 @@ ghost use Rattle.std.specs.Prelude.{◌≡◌, ◌≢◌, true, false, [], lengt
 ghost use Rattle.chart.specs.Checked.{checked};
 ghost use Rattle.search.specs.History.{History};
 ghost use Rattle.planner.specs.Making.{fit, made_in};
-ghost use Rattle.report.specs.Stock.{sizes_of};
 
 use anyhow::anyhow;
 use chart::Chart;
 use kinds::{CostKind, NodeKind};
-use report::{Desk, Memory};
+use routes::{Desk, Memory};
 use search::SeekRefusal;
 use std::fmt;
 
@@ -26,10 +25,10 @@ pub fn chart_in(bytes: &[u8]) -> anyhow::Result<Chart>
 // A planner over the memory, with room for its routes.
 pub fn desk_over<N: NodeKind, C: CostKind>(memory: &mut Memory<N, C>) -> anyhow::Result<Desk<N, C>>
     ensures begins { IfOk result (λ desk. History C.kind [] desk.planner) }
-    ensures held { IfOk result (λ desk. desk.planner ≡ made_in (sizes_of memory.old)) }
+    ensures held { IfOk result (λ desk. desk.planner ≡ made_in memory.old.lent) }
     ensures room { IfOk result (λ desk. length desk.out.now ≡ memory.old.nodes) }
-    ensures fits { OnOk result (fit (sizes_of memory.old) ≡ true) }
-    ensures refused { OnErr result (fit (sizes_of memory.old) ≡ false) }
+    ensures fits { OnOk result (fit memory.old.lent ≡ true) }
+    ensures refused { OnErr result (fit memory.old.lent ≡ false) }
 {
     memory.desk().map_err(|refusal| anyhow!("the planner is refused by {}", u8::from(refusal)))
 }

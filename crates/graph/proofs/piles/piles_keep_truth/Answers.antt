@@ -1,5 +1,4 @@
 -- The facts about piles.
-use Rattle.std.proofs.Common.{rules}
 use Rattle.graph.proofs.Kept.{piles_keep_truth, piles_nest}
 use Rattle.graph.proofs.Routes.{fences_part_routes, tolls_add_weight}
 use Rattle.graph.proofs.piles.piles_keep_truth.Goals as goal
@@ -7,7 +6,6 @@ use Rattle.graph.proofs.piles.piles_keep_truth.Goals as goal
 pub returns : goal.returns
 returns c =
     record {
-      answer = search rules;
       truth = piles_keep_truth;
       nested = piles_nest;
       fence = fences_part_routes;

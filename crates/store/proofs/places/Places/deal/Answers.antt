@@ -1,10 +1,10 @@
 use Rattle.store.specs.Slots.{entries}
 use Rattle.store.proofs.Seats.{length_entries}
-use Rattle.store.proofs.Dealing.{dealt_stands, dealt_is, dealt_sound, dealt_queue}
+use Rattle.store.proofs.Dealing.{dealt_kept, dealt_is, dealt_sound, dealt_queue}
 use Rattle.store.proofs.places.Places.deal.Goals as goal
 
 pub invariant_of-self : goal.invariant_of-self
-invariant_of-self g c = dealt_stands _ _ _ c.self.invariant.fits c.deal.ensures.entries c.deal.ensures.places c.self.invariant
+invariant_of-self g c = dealt_kept _ _ _ c.self.invariant.fits c.deal.ensures.entries c.deal.ensures.places c.self.invariant
 
 pub returns-clause-sound : goal.returns-clause-sound
 returns-clause-sound g c =

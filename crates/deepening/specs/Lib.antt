@@ -1,0 +1,4 @@
+pub mod Trails
+pub mod Views
+pub mod Lefts
+pub mod Steps

@@ -1,0 +1,5 @@
+mod Walks
+mod Keeps
+mod Written
+mod Choices
+mod Singles

@@ -1,0 +1,4 @@
+pub mod Routes
+pub mod Odometer
+pub mod Sinks
+pub mod Handing

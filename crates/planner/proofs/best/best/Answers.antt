@@ -1,0 +1,4 @@
+use Rattle.planner.proofs.best.best.Goals as goal
+
+pub returns-clause-answer : goal.returns-clause-answer
+returns-clause-answer g c = rw (← c.begin.ensures.room, ← c.begin.ensures.links) c.run.ensures.answer
