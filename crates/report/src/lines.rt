@@ -42,6 +42,12 @@ impl<C: fmt::Display> fmt::Display for Found<C> {
     }
 }
 
+// Tells on standard error why something was refused. What is printed on standard output and how the program ends do not hang on it: a
+// reason that cannot be written is left out.
+fn tell<W: fmt::Display + Drop, R: fmt::Display + Drop>(rt: &HostRuntime, refused: W, reason: R) {
+    let _ = eprintln!(rt; "{refused}: {reason}");
+}
+
 // Prints the routes that are there to be handed out: at most a hundred, since a search that has many is not to fill the screen.
 fn print_routes(
     rt: &HostRuntime,
@@ -53,7 +59,7 @@ fn print_routes(
             Ok(None) => break,
             Ok(Some(route)) => println!(rt; "{found}:{route}")?,
             Err(refusal) => {
-                eprintln!(rt; "{}: {refusal}", found.method)?;
+                tell(rt, found.method, refusal);
                 return println!(rt; "{} refused {}", found.method, u8::from(refusal));
             }
         }
@@ -70,7 +76,7 @@ fn report(
 ) -> io::Result<()> {
     match desk.planner.seek(method, chart, Station { id: 0 }) {
         Err(refusal) => {
-            eprintln!(rt; "{method}: {refusal}")?;
+            tell(rt, method, refusal);
             println!(rt; "{method} refused {}", u8::from(refusal))
         }
         Ok(None) => println!(rt; "{method} none"),
@@ -101,11 +107,11 @@ fn memory_for(
 
 /// Runs these searches, or all where there are none, over a chart from station 0, with a planner of so many rows and links; and prints
 /// what each came to, or that the chart or the counts are refused. A line of standard output has the number of a refusal, and one of
-/// standard error its reason.
+/// standard error its reason, which is left out where it cannot be written.
 ///
 /// # Errors
 ///
-/// That a line is not written, or that the heap has no memory left for a planner of so many rows and links.
+/// That a line of standard output is not written, or that the heap has no memory left for a planner of so many rows and links.
 ///
 /// # Examples
 ///
@@ -122,14 +128,14 @@ pub fn run(
     let chart = match Chart::try_from(bytes) {
         Ok(chart) => chart,
         Err(refusal) => {
-            eprintln!(rt; "chart: {refusal}")?;
+            tell(rt, "chart", refusal);
             return Ok(println!(rt; "chart refused {}", u8::from(refusal))?);
         }
     };
     let mut memory = match memory_for(rt.alloc(), rows, links)? {
         Ok(memory) => memory,
         Err(refusal) => {
-            eprintln!(rt; "planner: {refusal}")?;
+            tell(rt, "planner", refusal);
             return Ok(println!(rt; "planner refused {}", u8::from(refusal))?);
         }
     };
