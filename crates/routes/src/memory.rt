@@ -59,8 +59,10 @@ impl<N, C> Model for Memory<N, C> {
     } };
 }
 
-// A planner over lent memory, where one can be made over so much.
+// A planner over lent memory, where one can be made over so much. It and `desk` are always inlined, so that a planner is made where it
+// stays: moved whole, it is copied by `memcpy`, a name that the archive for C would need from outside for this alone.
 #[tactic(auto, using(search::proofs::Histories::histories_fair))]
+#[inline(always)]
 fn planner_over<'a, N: NodeKind, C: CostKind>(
     lent: Lent<'a, N, C>,
 ) -> Result<Planner<'a, N, C>, MakeRefusal>
@@ -118,6 +120,7 @@ impl<N: NodeKind, C: CostKind> Memory<N, C> {
     /// # Errors
     ///
     /// `MakeRefusal::Counts` where no planner is made over so many rows and links.
+    #[inline(always)]
     pub fn desk(&mut self) -> Result<Desk<'_, N, C>, MakeRefusal>
         ensures law { OnOk result (Law C.kind) }
         ensures begins { IfOk result (λ d. History C.kind [] d.planner) }
