@@ -37,8 +37,12 @@ pub struct Told {
 }
 
 impl Told {
-    // A code without a route.
-    fn bare(code: u32) -> Told
+    /// A code without a route: neither a cost nor a length.
+    ///
+    /// # Examples
+    ///
+    /// `Told::bare(NO_ROUTE)` is what is told where a search finds no route.
+    pub fn bare(code: u32) -> Told
         ensures { result ≡ bare_code code }
     {
         Told {

@@ -35,7 +35,7 @@ says_checked bytes =
     )
 
 -- bytes that the check passes keep every rule
-keeps_all : (bytes : List ℕ) → sound bytes ≡ true → Keeps bytes
+pub keeps_all : (bytes : List ℕ) → sound bytes ≡ true → Keeps bytes
 unfolding Says
 keeps_all bytes e = grind (arith, says_checked bytes)
 
